@@ -78,9 +78,11 @@ deb: programs web
 deb-lib: lib
 	@tools/deb-lib.sh
 
-# the console as a person sees it, in Chromium, with the picture of the README made anew; no part of the gate
+# the console as a person sees it, in Chromium, over a simulated station and a running one, with the picture of the README made anew;
+# no part of the gate. The first time this proves the server and all below it
 browser: web
-	@tests/browser.py $(web) docs/pictures/console.png
+	@tools/build.py cfdp_server
+	@tests/browser.py $(web) $(server) docs/pictures/console.png
 
 # each allocation refused in turn, and changed datagrams: the programs for both are proved and built
 memory:
@@ -91,6 +93,7 @@ memory:
 test:
 	@tests/preflight.sh
 	@tests/layers.sh
+	@tests/version.sh
 	@tests/locks.py
 	@tests/same.sh
 	@tests/trusted.py --check

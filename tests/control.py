@@ -18,8 +18,8 @@ import threading
 import time
 
 from support import (
-    EOF, FILE_DATA, METADATA, Client, Running, Wrong, case, configuration, free_port, in_own_mounts, mounted, run_cases,
-    unmount, until, want,
+    EOF, FILE_DATA, METADATA, Client, Running, Wrong, case, configuration, fill, free_port, in_own_mounts, run_cases,
+    small_disk, until, want,
 )
 
 SERVER = os.path.abspath(sys.argv[1])
@@ -537,12 +537,8 @@ def a_log():
 @case
 def a_log_on_a_full_disk():
     """The server keeps running, reports that the log fails, and continues it once there is room."""
-    why = mounted("logs", "size=16k")
-    if why:
-        return why
-    try:
-        with contextlib.suppress(OSError):
-            pathlib.Path("logs/full").write_bytes(bytes(65_536))
+    with small_disk("logs", "size=16k"):
+        fill("logs/full")
         with server(options=("--log", "logs/log")) as one:
             client = one.client()
 
@@ -557,9 +553,6 @@ def a_log_on_a_full_disk():
             one.quits()
         events = [json.loads(line) for line in open("logs/log", encoding="utf-8")]
         want([event["number"] for event in events], list(range(1, len(events) + 1)))
-    finally:
-        unmount("logs")
-    return None
 
 
 @case

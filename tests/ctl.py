@@ -210,6 +210,12 @@ def tables():
         text = run.stdout
         want("status, its octets", not any(octet < 32 and octet != 10 or octet == 127 for octet in text), text)
         want("status, its width", max(len(line.decode()) for line in text.split(b"\n")) <= 100, text)
+        widths = []
+        for words, columns in (((), None), ((), "108"), (("--width", "116"), "108"), ((), "wide")):
+            run = ctl("status", *words, environment={"COLUMNS": columns} if columns else None)
+            widths.append(max(len(line.decode()) for line in run.stdout.split(b"\n")))
+        want("status, the width that the environment gives", 90 < widths[0] <= 100 < widths[1] <= 108 < widths[2] <= 116
+             and widths[3] == widths[0], widths)
         for word in (b"Users", b"Ended", b"Remotes", b"Refusals", b"DecodeFault", b"7.3", b"\\x1b"):
             want(f"status, {word}", word in text, text)
         want("status, no colour", b"\x1b" not in text, text)
@@ -790,7 +796,7 @@ def left_in(folder):
 def hot_folders():
     """Files that come into a folder: each is sent once and moved, whoever restarts meanwhile."""
     check("no folder", ctl("watch", "missing", "--to", "5"), 3, b"", b"cfdp_ctl: missing: no such file\n")
-    check("a file as a folder", ctl("watch", FILE, "--to", "5"), 3, b"", b"it is no folder\n")
+    check("a file as a folder", ctl("watch", FILE, "--to", "5"), 3, b"", b"it is not a folder\n")
     if os.getuid() != 0:
         with station("--transactions", "0"):
             folder = hot_folder("hot", {"a": 1})

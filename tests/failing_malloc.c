@@ -5,8 +5,8 @@
  *
  * FAIL_AT is the number of the allocation that is refused, counted from 1 in the order in which all threads make them;
  * without it none is. A block that grows counts as an allocation. FAIL_REPORT names a file into which the program's end
- * writes how many there were. FAIL_SWITCH names a file of at least one octet: while that octet isn't 0, each allocation is
- * refused.
+ * writes how many there were. FAIL_SWITCH names a file of at least one octet: while that octet isn't 0, each allocation of at
+ * least FAIL_FROM octets is refused; without FAIL_FROM each one.
  */
 #define _GNU_SOURCE
 #include <dlfcn.h>
@@ -26,6 +26,7 @@ static int (*next_posix_memalign)(void **, size_t, size_t);
 static long count;
 static long refused;
 static const volatile char *all_refused;
+static size_t refused_from;
 
 /* What the C library has under a name. */
 static void *next(const char *name)
@@ -54,12 +55,14 @@ static void map_switch(void)
 __attribute__((constructor)) static void begin(void)
 {
     const char *number = getenv("FAIL_AT");
+    const char *least = getenv("FAIL_FROM");
     next_malloc = next("malloc");
     next_realloc = next("realloc");
     next_aligned_alloc = next("aligned_alloc");
     next_posix_memalign = next("posix_memalign");
     __atomic_store_n(&count, 0, __ATOMIC_SEQ_CST);
     refused = number != NULL ? atol(number) : 0;
+    refused_from = least != NULL ? (size_t)atol(least) : 0;
     map_switch();
 }
 
@@ -89,9 +92,9 @@ void _exit(int status)
 }
 
 /* Whether the allocation that comes now is the one that is refused. */
-static int is_refused(void)
+static int is_refused(size_t size)
 {
-    if (all_refused != NULL && *all_refused != 0)
+    if (all_refused != NULL && *all_refused != 0 && size >= refused_from)
         return 1;
     return __atomic_add_fetch(&count, 1, __ATOMIC_SEQ_CST) == refused;
 }
@@ -100,7 +103,7 @@ void *malloc(size_t size)
 {
     if (next_malloc == NULL)
         next_malloc = next("malloc");
-    if (is_refused()) {
+    if (is_refused(size)) {
         errno = ENOMEM;
         return NULL;
     }
@@ -111,7 +114,7 @@ void *realloc(void *block, size_t size)
 {
     if (next_realloc == NULL)
         next_realloc = next("realloc");
-    if (is_refused()) {
+    if (is_refused(size)) {
         errno = ENOMEM;
         return NULL;
     }
@@ -122,7 +125,7 @@ void *aligned_alloc(size_t alignment, size_t size)
 {
     if (next_aligned_alloc == NULL)
         next_aligned_alloc = next("aligned_alloc");
-    if (is_refused()) {
+    if (is_refused(size)) {
         errno = ENOMEM;
         return NULL;
     }
@@ -133,7 +136,7 @@ int posix_memalign(void **block, size_t alignment, size_t size)
 {
     if (next_posix_memalign == NULL)
         next_posix_memalign = next("posix_memalign");
-    if (is_refused())
+    if (is_refused(size))
         return ENOMEM;
     return next_posix_memalign(block, alignment, size);
 }

@@ -14,7 +14,7 @@ import sys
 import threading
 import time
 
-from support import case, configuration, end_of_file, file_data, free_port, library, metadata, pdu, run_cases, station, until, want
+from support import case, configuration, end_of_file, file_data, free_port, library, metadata, pdu, run_cases, socket_of_peer, station, until, want
 
 SERVER, PUT = (os.path.abspath(word) for word in sys.argv[1:3])
 # How many events a transaction takes at most.
@@ -216,9 +216,7 @@ def a_journal_that_is_full_at_a_receiver():
 def a_journal_that_is_full_at_a_put():
     """A put whose peer floods it abandons its transaction, prints its end, and ends with status 2."""
     pathlib.Path("file").write_bytes(b"abc")
-    with socket.socket(socket.AF_INET, socket.SOCK_DGRAM) as peer:
-        peer.bind(("127.0.0.1", 0))
-        peer.settimeout(20)
+    with socket_of_peer() as peer:
         text = configuration(f"127.0.0.1:{peer.getsockname()[1]}", ("alice",), 1_500, 200, id=1, remote=2, octets=4)
         pathlib.Path("config").write_text(text)
         port = free_port()
@@ -237,6 +235,12 @@ def a_journal_that_is_full_at_a_put():
                 run.kill()
 
 
+def turn_switch(octet):
+    """Lets allocations fail, or no more. The file is written in place, since the server has it in its memory."""
+    with open("switch", "r+b") as switch:
+        switch.write(octet)
+
+
 def at_the_end_of_memory(moment):
     """After so many datagrams of two transfers each allocation fails; commands are still answered, and the server ends."""
     pathlib.Path("switch").write_bytes(b"\0")
@@ -251,7 +255,7 @@ def at_the_end_of_memory(moment):
         for datagram in datagrams[:moment]:
             peer.sendto(datagram, ("127.0.0.1", one.port))
         time.sleep(0.1)
-        pathlib.Path("switch").write_bytes(b"\1")
+        turn_switch(b"\1")
         for datagram in datagrams[moment:]:
             peer.sendto(datagram, ("127.0.0.1", one.port))
         # timers expire meanwhile
@@ -271,6 +275,26 @@ def memory_that_ends():
         os.chdir(f"moment{moment}")
         at_the_end_of_memory(moment)
         os.chdir("..")
+
+
+@case
+def a_file_for_which_memory_runs_out():
+    """A file of the outbox for which there is no memory waits, and goes once there is; a put of it is refused."""
+    pathlib.Path("switch").write_bytes(b"\0")
+    pathlib.Path("file").write_bytes(bytes(300_000))
+    around = {**os.environ, "LD_PRELOAD": library("failing_malloc"), "FAIL_SWITCH": os.path.abspath("switch"), "FAIL_FROM": "60000"}
+    with station(SERVER, around=around, options=("--hold",)) as (one, _):
+        client = one.client()
+        want((client.ask("follow"), client.ask("send alice 2 2 file there")), (["ok"], ["queued 1"]))
+        turn_switch(b"\1")
+        want(client.ask("release 2"), ["ok"])
+        time.sleep(2.5)
+        want((len(client.ask("outbox")), [event for event in client.events if event["kind"] == "unsent"]), (1, []))
+        want(client.ask("put alice 0 2 2 file at-once"), ["refused 12 NoMemory"])
+        turn_switch(b"\0")
+        until(lambda: client.ask("outbox") == [], "the file")
+        put = client.wait_event(lambda event: event["kind"] == "put", "its transaction")
+        want((put["queued"], put["to"]), (1, "there"))
 
 
 run_cases("hostile")

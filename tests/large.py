@@ -12,7 +12,7 @@ import random
 import subprocess
 import sys
 
-from support import Relay, Station, case, free_port, linked, run_cases, until, want
+from support import Relay, Skipped, Station, case, free_port, linked, run_cases, until, want
 
 SERVER, CTL = (os.path.abspath(path) for path in sys.argv[1:3])
 PUT = os.path.abspath(sys.argv[3]) if len(sys.argv) > 3 else None
@@ -158,7 +158,7 @@ def checks_and_starts():
 def a_put_alone():
     """The put sends a file as the last of the users, with a number above 2^53."""
     if PUT is None:
-        return "no put is given"
+        raise Skipped("no put is given")
     relay = Relay()
     ports = [free_port(), free_port()]
     other = Station(SERVER, 2, ports[1], 0, 0, ("--tree",), text=configuration(1, relay.ports[1]), workers=2)
@@ -175,7 +175,6 @@ def a_put_alone():
     finally:
         other.close()
         relay.close()
-    return None
 
 
 run_cases("large configurations")

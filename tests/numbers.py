@@ -16,10 +16,13 @@ import sys
 import tempfile
 import time
 
-from support import Wrong, configuration, fastest, want
+from support import Wrong, close_run, configuration, fastest, want
 
 SERVER, PUT = (os.path.abspath(path) for path in sys.argv[1:3])
 KILLS = 100
+
+# A file of numbers covers 64 at once.
+PUTS_OF_A_LANE = 80
 
 
 class Peer:
@@ -59,11 +62,7 @@ def server(*options):
     try:
         yield run
     finally:
-        if run.poll() is None:
-            run.kill()
-        run.wait()
-        run.stdout.close()
-        run.stderr.close()
+        close_run(run)
 
 
 def connected(run):
@@ -127,6 +126,25 @@ def killed_servers(peer, chance):
     if len(seen) < KILLS:
         raise Wrong(f"only {len(seen)} numbers came: the test says nothing")
     return len(seen)
+
+
+def a_killed_lane(peer):
+    """More Puts in one lane than the file of numbers covers at once, a kill, and no number comes again."""
+    seen = []
+    for count in (PUTS_OF_A_LANE, 1):
+        with server("--numbers", "lane-numbers") as run:
+            client = connected(run)
+            end, here = time.monotonic() + 60, []
+            while len(here) < count and time.monotonic() < end:
+                reply = ask(client, "put alice 0 1 1 file to")
+                if reply[0] == "ok":
+                    here.append(int(reply[1].split()[2]))
+            run.kill()
+            run.wait()
+            client.close()
+        seen += here
+    want((len(seen), seen), (PUTS_OF_A_LANE + 1, sorted(set(seen))))
+    peer.numbers()
 
 
 def killed_puts(peer, chance):
@@ -224,6 +242,7 @@ def main():
         pathlib.Path("file").write_bytes(b"abc")
         peer = Peer()
         servers = killed_servers(peer, chance)
+        a_killed_lane(peer)
         puts = killed_puts(peer, chance)
         faults(peer)
         first_numbers(peer)

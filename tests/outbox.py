@@ -15,7 +15,9 @@ import sys
 import threading
 import time
 
-from support import Station, Wrong, case, configuration, free_port, in_own_mounts, mounted, run_cases, unmount, until, want
+from support import (
+    Station, Wrong, case, close_run, configuration, fill, free_port, in_own_mounts, run_cases, small_disk, socket_of_peer, until, want,
+)
 
 SERVER = os.path.abspath(sys.argv[1])
 KILLS = 50
@@ -190,6 +192,42 @@ def a_file_that_cannot_be_sent_does_not_come_back():
         want(one.numbers(), [])
 
 
+@case
+def a_file_whose_users_queue_is_full():
+    """It waits until its user has taken an indication, with the file of an outbox and without."""
+    for options in ((), ("--outbox", "outbox", "--numbers", "numbers")):
+        with socket_of_peer() as peer:
+            there = f"127.0.0.1:{peer.getsockname()[1]}"
+            pathlib.Path("config").write_text(configuration(there, users=("alice",), timer=60_000, capacity=1))
+            os.makedirs("received", exist_ok=True)
+            pathlib.Path("a").write_bytes(b"abc")
+            words = ("--config", "config", "--bind", f"127.0.0.1:{free_port()}", "--folder", "received")
+            run = subprocess.Popen([SERVER, *words, *options], stdin=subprocess.PIPE, stdout=subprocess.PIPE, text=True)
+            guard = threading.Timer(60, run.kill)
+            guard.start()
+            try:
+                want(replies(run, "put alice 0 2 1 a b")[0], "ok")
+                want(replies(run, "send alice 2 1 a c"), ["queued 1"])
+                time.sleep(2.5)
+                want(len(replies(run, "outbox")), 1)
+                until(lambda: replies(run, "take alice") and not replies(run, "outbox"), "the file")
+            finally:
+                guard.cancel()
+                close_run(run)
+
+
+def replies(run, command):
+    """The lines of the reply to a command on the standard input."""
+    run.stdin.write(f"{command}\ntrace 1 1000000\n")
+    run.stdin.flush()
+    lines_here = []
+    while not (line := run.stdout.readline()).startswith("refused 1 "):
+        if not line:
+            raise Wrong("the server ended")
+        lines_here.append(line.rstrip("\n"))
+    return lines_here
+
+
 def count_of(word, path="outbox"):
     """How many lines of the file begin with a word."""
     return sum(line.startswith(word) for line in lines(path))
@@ -239,23 +277,13 @@ def fifty_kills():
         want([name for name in dict.fromkeys(one.peer.targets()) if name in known], known)
 
 
-def fill_disk():
-    """Leaves no room on the small disk."""
-    with contextlib.suppress(OSError), open("disk/filler", "wb", buffering=0) as filler:
-        while True:
-            filler.write(bytes(4_096))
-
-
 @case
 def a_full_disk():
     """What can't be noted is refused, in memory too, and what waits stays. Once there is room, files are taken again."""
-    why = mounted("disk", "size=64k")
-    if why:
-        return why
-    try:
+    with small_disk("disk", "size=64k"):
         with sender("--hold", at="disk/outbox") as one:
             want(one.client.ask("send alice 1 2 a first"), ["queued 1"])
-            fill_disk()
+            fill("disk/filler")
             count = 1
             while (answer := one.client.ask("send alice 1 2 a next")) != ["outbox fault"]:
                 want(answer, [f"queued {count + 1}"])
@@ -269,21 +297,15 @@ def a_full_disk():
             want(one.client.ask("send alice 1 2 a last"), [f"queued {count + 1}"])
             one.restart("--hold")
             want(one.numbers(), list(range(2, count + 2)))
-    finally:
-        unmount("disk")
-    return None
 
 
 @case
 def ends_on_a_full_disk():
     """What leaves while the disk is full is noted once there is room: while the server runs, and also by one that quits at once."""
     for quits in (False, True):
-        why = mounted("disk", "size=64k")
-        if why:
-            return why
-        try:
+        with small_disk("disk", "size=64k"):
             with sender("--hold", at="disk/outbox", lanes=1, users=("alice",)) as one:
-                fill_disk()
+                fill("disk/filler")
                 count = 0
                 # long names, so that some fifteen files fill what the file has of the disk
                 while one.client.ask(f"send alice 1 2 a {'next' * 50}") != ["outbox fault"]:
@@ -302,43 +324,31 @@ def ends_on_a_full_disk():
                     one.restart()
                 time.sleep(0.5)
                 want((one.numbers(), len(one.peer.names)), ([], count))
-        finally:
-            unmount("disk")
-    return None
 
 
 @case
 def a_full_disk_of_the_numbers():
     """A file whose number can't be written waits, and goes once there is room."""
-    why = mounted("disk", "size=64k")
-    if why:
-        return why
-    try:
+    with small_disk("disk", "size=64k"):
         with numbered() as one:
             one.client.ask("send alice 1 2 a first")
             one.client.ask("send alice 1 2 b second")
-            fill_disk()
+            fill("disk/filler")
             one.client.ask("release 2")
             time.sleep(2.5)
             want((sorted(one.numbers()), one.peer.targets()), ([1, 2], []))
             os.remove("disk/filler")
             until(lambda: sorted(one.peer.whole()) == ["first", "second"], "the files")
-    finally:
-        unmount("disk")
-    return None
 
 
 @case
 def a_full_disk_of_the_numbers_alone():
     """Without a file of the outbox a file whose number can't be written leaves it unsent, once; one that comes when there is room goes."""
-    why = mounted("disk", "size=64k")
-    if why:
-        return why
-    try:
+    with small_disk("disk", "size=64k"):
         with numbered(outbox=()) as one:
             want(one.client.ask("follow"), ["ok"])
             want(one.client.ask("send alice 1 2 a first"), ["queued 1"])
-            fill_disk()
+            fill("disk/filler")
             want(one.client.ask("release 2"), ["ok"])
             event = one.client.wait_event(lambda event: event["kind"] == "unsent", "the event")
             want((event["queued"], event["why"], one.waiting()), (1, "numbers fault", []))
@@ -347,9 +357,6 @@ def a_full_disk_of_the_numbers_alone():
             until(lambda: one.peer.whole() == ["second"], "the next file")
             want((one.waiting(), one.peer.targets()), ([], ["second"]))
             want([event["queued"] for event in one.client.events if event["kind"] == "unsent"], [1])
-    finally:
-        unmount("disk")
-    return None
 
 
 @contextlib.contextmanager

@@ -49,6 +49,21 @@ def usual(config, *more):
     return ["--config", config, "--bind", "127.0.0.1:0", "--folder", ".", *more]
 
 
+def is_refused(fault, why, *options):
+    """A start with a good configuration and these options ends with a fault; with --explain it says why, and else no more."""
+    want(started(usual("good", *options)), [f"cfdp_server: {fault} fault"])
+    want(started(usual("good", "--explain", *options)), [f"cfdp_server: {fault} fault", why])
+
+
+@contextlib.contextmanager
+def listening(path):
+    """Another program listens at a path."""
+    with contextlib.closing(socket.socket(socket.AF_UNIX)) as other:
+        other.bind(path)
+        other.listen()
+        yield
+
+
 def holds(line, *parts):
     for part in parts:
         if part not in line:
@@ -103,18 +118,18 @@ def places_elsewhere():
         want(first, f"cfdp_server: config fault {number}")
         holds(second, "bad: line ", *parts)
     pathlib.Path("bad").write_bytes(GOOD.encode() + b"# \xff\n")
-    holds(started(usual("bad", "--explain"))[1], f"bad: octet {len(GOOD) + 2} is no part of a text in UTF-8")
+    holds(started(usual("bad", "--explain"))[1], f"bad: octet {len(GOOD) + 2} is not UTF-8")
 
 
 def paths():
     os.makedirs("folder", exist_ok=True)
-    want(started(usual("nowhere", "--explain")), ["cfdp_server: read fault", "nowhere: is not there"])
-    want(started(usual("folder", "--explain")), ["cfdp_server: read fault", "folder: is a folder"])
-    want(started(usual("good/below", "--explain")), ["cfdp_server: read fault", "good/below: a part of the path is no folder"])
+    unread = [("nowhere", "is not there"), ("folder", "is a folder"), ("good/below", "a part of the path is not a folder")]
     if os.geteuid() != 0:
         pathlib.Path("secret").write_text(GOOD, encoding="ascii")
         os.chmod("secret", 0)
-        want(started(usual("secret", "--explain")), ["cfdp_server: read fault", "secret: permission denied"])
+        unread.append(("secret", "permission denied"))
+    for path, why in unread:
+        want(started(usual(path, "--explain")), ["cfdp_server: read fault", f"{path}: {why}"])
     pathlib.Path("large").write_bytes(b"=" + b"#" * (16 * 1024 * 1024))
     lines = started(usual("large", "--explain"))
     holds(lines[1], "large: too large: ", "allowed: 16777216")
@@ -128,21 +143,14 @@ def sockets():
              ["cfdp_server: bind fault", f"{address}: another program has this address"])
     want(started(["--config", "good", "--bind", "192.0.2.1:7002", "--folder", ".", "--explain"]),
          ["cfdp_server: bind fault", "192.0.2.1:7002: this machine does not have the address"])
-    want(started(usual("good", "--explain", "--control", "f")), ["cfdp_server: bind fault", "f: is there, and is no socket"])
-    want(started(usual("good", "--explain", "--control", "gone/c")), ["cfdp_server: bind fault", "gone: is not there"])
-    with contextlib.closing(socket.socket(socket.AF_UNIX)) as other:
-        other.bind("live")
-        other.listen()
-        want(started(usual("good", "--explain", "--control", "live")), ["cfdp_server: bind fault", "live: another program listens there"])
-        want(started(usual("good", "--control", "live")), ["cfdp_server: bind fault"])
-        status = ("--control", "c", "--status-socket", "live")
-        want(started(usual("good", "--explain", *status)), ["cfdp_server: bind fault", "live: another program listens there"])
-        want(started(usual("good", *status)), ["cfdp_server: bind fault"])
-        want(started(usual("good", "--explain", "--control", "live", "--status-socket", "c")),
-             ["cfdp_server: bind fault", "live: another program listens there"])
-    want(started(usual("good", "--explain", "--control", "c", "--status-socket", "gone/c")), ["cfdp_server: bind fault", "gone: is not there"])
+    is_refused("bind", "f: exists, but is not a socket", "--control", "f")
+    is_refused("bind", "gone: is not there", "--control", "gone/c")
+    with listening("live"):
+        for options in (("--control", "live"), ("--control", "c", "--status-socket", "live"), ("--control", "live", "--status-socket", "c")):
+            is_refused("bind", "live: another program listens there", *options)
+    is_refused("bind", "gone: is not there", "--control", "c", "--status-socket", "gone/c")
     want(os.path.exists("c"), False)
-    for words, why in (((), "--status-socket stands beside --control"), (("--control", "c"), "--status-socket takes another path than --control")):
+    for words, why in (((), "--status-socket needs --control"), (("--control", "c"), "--status-socket takes another path than --control")):
         complaint = started(usual("good", "--explain", "--status-socket", "c", *words))
         want(complaint, ["cfdp_server: usage", why, "`cfdp_server --help` lists the options"])
     if os.path.exists("live.lock"):
@@ -150,28 +158,24 @@ def sockets():
 
 
 def numbers():
-    want(started(usual("good", "--explain", "--numbers", "f")), ["cfdp_server: numbers fault", "f: holds no number"])
+    is_refused("numbers", "f: holds no number", "--numbers", "f")
     want(pathlib.Path("f").read_text(encoding="ascii"), "abc")
-    want(started(usual("good", "--explain", "--numbers", "gone/n")), ["cfdp_server: numbers fault", "gone: is not there"])
-    want(started(usual("good", "--explain", "--numbers", "folder")), ["cfdp_server: numbers fault", "folder: is a folder"])
-    with contextlib.closing(socket.socket(socket.AF_UNIX)) as other:
-        other.bind("n.lock")
-        other.listen()
-        want(started(usual("good", "--explain", "--numbers", "n")), ["cfdp_server: numbers fault", "n: another program uses it"])
+    is_refused("numbers", "gone: is not there", "--numbers", "gone/n")
+    is_refused("numbers", "folder: is a folder", "--numbers", "folder")
+    with listening("n.lock"):
+        is_refused("numbers", "n: another program uses it", "--numbers", "n")
 
 
 def outboxes():
-    want(started(usual("good", "--explain", "--outbox", "gone/o")), ["cfdp_server: outbox fault", "gone: is not there"])
-    want(started(usual("good", "--explain", "--outbox", "folder")), ["cfdp_server: outbox fault", "folder: is a folder"])
+    is_refused("outbox", "gone: is not there", "--outbox", "gone/o")
+    is_refused("outbox", "folder: is a folder", "--outbox", "folder")
     pathlib.Path("odd").write_text("nonsense\n", encoding="ascii")
     first, second = started(usual("good", "--explain", "--outbox", "odd"))
     want(first, "cfdp_server: outbox fault")
     holds(second, "odd: ", "a line that doesn't queue a file of this configuration")
     want(started(usual("good", "--outbox", "odd")), ["cfdp_server: outbox fault"])
-    with contextlib.closing(socket.socket(socket.AF_UNIX)) as other:
-        other.bind("o.lock")
-        other.listen()
-        want(started(usual("good", "--explain", "--outbox", "o")), ["cfdp_server: outbox fault", "o: another program uses it"])
+    with listening("o.lock"):
+        is_refused("outbox", "o: another program uses it", "--outbox", "o")
 
 
 def notes():

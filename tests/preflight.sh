@@ -43,7 +43,8 @@ if command -v g++ > /dev/null && ! g++ -fsyntax-only -x c++ "$room/one.c" > /dev
     lacks "a g++ that compiles" "the header for C++"
 fi
 
-mounting=(a_folder_that_is_read_only a_folder_that_is_full a_log_on_a_full_disk a_disk_that_is_full_for_a_while)
+mounting=(a_folder_that_is_read_only a_folder_that_is_full a_log_on_a_full_disk a_disk_that_is_full_for_a_while
+    a_full_disk ends_on_a_full_disk a_full_disk_of_the_numbers a_full_disk_of_the_numbers_alone)
 mounts() {
     unshare -m mount -t tmpfs tmpfs "$room" 2> /dev/null || unshare -rm mount -t tmpfs tmpfs "$room" 2> /dev/null
 }

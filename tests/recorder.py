@@ -122,8 +122,11 @@ def same_pdus(found, sent, what):
 
 
 def same_as_it_was(one, wire, way):
-    """Each recording of a station gives, when it is played, what its log and the wire have of the transaction."""
-    scripts, log = scripts_of(one), log_of(one)
+    """Each recording of a station gives, when it is played, what its log and the wire have of the transaction. A recording may be
+    there before the log's last lines."""
+    scripts = scripts_of(one)
+    until(lambda: set(scripts) <= ends_of(one), "the ends in the log")
+    log = log_of(one)
     for (source, seq), path in scripts.items():
         lines = played(one, path)
         want([line for line in lines if line.startswith(("refused", "none", "line"))], [])

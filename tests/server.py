@@ -17,7 +17,10 @@ import subprocess
 import sys
 import time
 
-from support import EOF, FILE_DATA, METADATA, Wrong, case, configuration, free_port, in_own_mounts, mounted, run_cases, unmount, want
+from support import (
+    EOF, FILE_DATA, METADATA, Wrong, case, close_run, configuration, fill, free_port, in_own_mounts, run_cases, small_disk,
+    socket_of_peer, until, want,
+)
 
 SERVER = os.path.abspath(sys.argv[1])
 FINISHED = "alice 1 5 Transaction-Finished "
@@ -26,10 +29,10 @@ FINISHED = "alice 1 5 Transaction-Finished "
 class Server:
     """A running server, with its commands, its answers and a socket that sends to it."""
 
-    def __init__(self, port=None, folder="received", peer=None, output=subprocess.PIPE, remote="127.0.0.1", keys=""):
+    def __init__(self, port=None, folder="received", peer=None, output=subprocess.PIPE, remote="127.0.0.1", keys="", timer=200):
         self.port = port or free_port()
         self.socket = socket.socket(socket.AF_INET, socket.SOCK_DGRAM)
-        pathlib.Path("config").write_text(configuration(f"{remote}:{peer or free_port()}") + keys)
+        pathlib.Path("config").write_text(configuration(f"{remote}:{peer or free_port()}", timer=timer) + keys)
         self.run = subprocess.Popen(
             [SERVER, "--config", "config", "--bind", f"127.0.0.1:{self.port}", "--folder", folder, "--workers", "2"],
             stdin=subprocess.PIPE, stdout=output, stderr=subprocess.PIPE,
@@ -75,6 +78,20 @@ class Server:
             time.sleep(0.01)
         raise Wrong(f"{beginning} was never printed")
 
+    def comes_to(self, how_far):
+        """Transaction 5 of entity 1 has come this far."""
+        until(lambda: self.ask("trace 1 5") == how_far, how_far)
+
+    def puts(self, words, seq):
+        """Puts a file of alice's by these words; it gets this number."""
+        want(self.ask(f"put alice 0 {words}"), "ok")
+        want(self.line(), f"txn 2 {seq}")
+
+    def finishes(self, seq, how):
+        """A transaction of alice's ends like this."""
+        finished = f"alice 2 {seq} Transaction-Finished "
+        want(self.takes(finished), finished + how)
+
     def status(self):
         """The lines of a status."""
         self.say(b"status\ntrace 1 9\n")
@@ -103,13 +120,8 @@ def server(**named):
     try:
         yield one
     finally:
-        if one.run.poll() is None:
-            one.run.kill()
-        one.run.wait()
-        for stream in (one.run.stdin, one.run.stdout, one.run.stderr, one.socket):
-            if stream:
-                with contextlib.suppress(OSError):
-                    stream.close()
+        close_run(one.run)
+        one.socket.close()
 
 
 @case
@@ -146,15 +158,29 @@ def an_unknown_source():
 
 
 @case
+def a_file_that_a_resume_hands_over():
+    """A file of class 2 becomes whole while its transaction is suspended. The reply to the resume names the deposit."""
+    with server(timer=60_000) as one:
+        parts = [bytes([part[0] & ~4]) + part[1:] for part in (METADATA, FILE_DATA, EOF)]
+        one.answers()
+        one.send(parts[0], parts[2])
+        one.comes_to("trace 2 open")
+        want(one.ask("suspend alice 1 5"), "ok")
+        one.send(parts[1])
+        one.comes_to("trace 4 open")
+        want((one.ask("resume alice 1 5"), one.line()), ("ok", "deposit 4"))
+        want(one.takes(FINISHED), FINISHED + "0 complete retained")
+        one.quits()
+
+
+@case
 def a_remote_that_nobody_answers_at():
     pathlib.Path("a").write_bytes(bytes(10_000))
     with server() as one:
-        want(one.ask("put alice 0 2 1 a b"), "ok")
-        want(one.line(), "txn 2 2")
-        want(one.takes("alice 2 2 Transaction-Finished "), "alice 2 2 Transaction-Finished 1 incomplete unreported")
-        want(one.ask("put alice 0 1 1 a b closure"), "ok")
-        want(one.line(), "txn 2 4")
-        want(one.takes("alice 2 4 Transaction-Finished "), "alice 2 4 Transaction-Finished 10 incomplete unreported")
+        one.puts("2 1 a b", 2)
+        one.finishes(2, "1 incomplete unreported")
+        one.puts("1 1 a b closure", 4)
+        one.finishes(4, "10 incomplete unreported")
         one.quits()
 
 
@@ -166,9 +192,8 @@ def a_remote_that_can_not_be_sent_to():
         one.answers()
         one.send(bytes.fromhex("20000a0001050204006162630000000003"))
         want(one.takes("alice 1 5 "), "alice 1 5 EOF-Recv")
-        want(one.ask("put alice 0 2 1 a b"), "ok")
-        want(one.line(), "txn 2 2")
-        want(one.takes("alice 2 2 Transaction-Finished "), "alice 2 2 Transaction-Finished 1 incomplete unreported")
+        one.puts("2 1 a b", 2)
+        one.finishes(2, "1 incomplete unreported")
         lines = one.status()
         counters, [remote] = lines[0]["counters"], [line for line in lines if line["kind"] == "remote"]
         # at least the ACK of the EOF that came, the Metadata, the File Data in four parts and the EOF
@@ -184,9 +209,8 @@ def a_file_at_the_limit():
             file.truncate(octets)
     with server() as one:
         want(one.ask("put alice 0 1 1 larger b"), "refused 10 TooLarge")
-        want(one.ask("put alice 0 1 1 large b"), "ok")
-        want(one.line(), "txn 2 2")
-        want(one.takes("alice 2 2 Transaction-Finished "), "alice 2 2 Transaction-Finished 0 incomplete unreported")
+        one.puts("1 1 large b", 2)
+        one.finishes(2, "0 incomplete unreported")
         one.quits()
 
 
@@ -208,12 +232,9 @@ def a_pipe_in_a_files_place():
 def files_without_a_checksum():
     """One is put, and one is received whose EOF has any checksum, with the large file flag, which is allowed."""
     pathlib.Path("a").write_bytes(b"abc")
-    with socket.socket(socket.AF_INET, socket.SOCK_DGRAM) as peer:
-        peer.bind(("127.0.0.1", 0))
-        peer.settimeout(20)
+    with socket_of_peer() as peer:
         with server(peer=peer.getsockname()[1], keys='checksum = "null"\n') as one:
-            want(one.ask("put alice 0 1 1 a b"), "ok")
-            want(one.line(), "txn 2 2")
+            one.puts("1 1 a b", 2)
             for octets in ("24000a00020201070f0000000301610162", "3400070002020100000000616263",
                            "24000a0002020104000000000000000003"):
                 want(peer.recv(65_536).hex(), octets)
@@ -237,44 +258,27 @@ def a_port_that_is_taken():
 
 @case
 def a_folder_that_is_read_only():
-    why = mounted("received", "ro")
-    if why:
-        return why
-    try:
-        return rejects()
-    finally:
-        unmount("received")
+    with small_disk("received", "ro"):
+        rejects()
 
 
 @case
 def a_folder_that_goes_away():
-    with server() as one:
-        one.answers()
-        shutil.rmtree("received")
-        one.send(METADATA, FILE_DATA, EOF)
-        want(one.takes(FINISHED), FINISHED + "4 incomplete rejected")
-        one.answers()
-        one.quits()
-    return None
+    rejects(lambda: shutil.rmtree("received"))
 
 
 @case
 def a_folder_that_is_full():
-    why = mounted("received", "size=8k")
-    if why:
-        return why
-    try:
-        with contextlib.suppress(OSError):
-            pathlib.Path("received/full").write_bytes(bytes(65_536))
-        return rejects()
-    finally:
-        unmount("received")
+    with small_disk("received", "size=8k"):
+        fill("received/full")
+        rejects()
 
 
-def rejects():
-    """The server reports a received file as rejected, and keeps running."""
+def rejects(act=lambda: None):
+    """The server reports a received file as rejected, and keeps running. The act comes before the file."""
     with server() as one:
         one.answers()
+        act()
         one.send(METADATA, FILE_DATA, EOF)
         want(one.takes(FINISHED), FINISHED + "4 incomplete rejected")
         one.answers()

@@ -16,6 +16,8 @@ import tempfile
 from support import configuration
 
 SERVER, PUT = (os.path.abspath(path) for path in sys.argv[1:3])
+# A word that is not UTF-8.
+NO_TEXT = os.fsdecode(b"\xff")
 # Command lines with which the server doesn't start, and what it prints for each.
 SERVER_FAULTS = [
     ("", "usage"),
@@ -28,6 +30,7 @@ SERVER_FAULTS = [
     ("--config nowhere --bind 127.0.0.1:0 --folder . more", "usage"),
     ("--config nowhere --bind 127.0.0.1:0 --folder . --park 1000000000001", "usage"),
     ("--config nowhere --bind 127.0.0.1:0 --folder . --lanes 4", "usage"),
+    (f"--config nowhere --bind 127.0.0.1:0 --folder {NO_TEXT}", "usage"),
     ("--config nowhere --bind 127.0.0.1:0 --folder . --lanes 2=4 --lanes 2=none", "usage"),
     ("--config nowhere --bind 127.0.0.1:0 --folder .", "read fault"),
     ("--config no-text --bind 127.0.0.1:0 --folder .", "config fault 1"),
@@ -40,6 +43,7 @@ PUT_FAULTS = [
     ("--config nowhere --bind 127.0.0.1:0 --user alice --remote 1 --class 3 f b", "usage"),
     ("--config nowhere --bind 127.0.0.1 --user alice --remote 1 --class 2 f b", "usage"),
     ("--config nowhere --bind 127.0.0.1:0 --user alice --remote 1 --class 2 f", "usage"),
+    (f"--config nowhere --bind 127.0.0.1:0 --user alice --remote 1 --class 2 f {NO_TEXT}", "usage"),
     ("--config nowhere --bind 127.0.0.1:0 --user carol --remote 1 --class 2 f b", "read fault"),
     ("--config bad --bind 127.0.0.1:0 --user carol --remote 1 --class 2 f b", "config fault 4"),
     ("--config good --bind 127.0.0.1:0 --user carol --remote 1 --class 2 nowhere b", "usage"),

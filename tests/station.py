@@ -17,7 +17,7 @@ import sys
 import time
 
 from support import (
-    Station, Wrong, case, configuration, end_of_file, file_data, free_port, library, metadata, pair, run_cases, station, until,
+    Station, Wrong, case, configuration, end_of_file, file_data, free_port, library, metadata, pair, run_cases, socket_of_peer, station, until,
     want,
 )
 
@@ -97,26 +97,6 @@ def contact_windows():
 
 
 @case
-def urgent_files():
-    """An urgent file goes before those of its user that wait, and another name than its path is told to the receiver."""
-    with stations(first=("--hold",), lanes=1) as (one, other, _):
-        client, peer = one.client(), other.client()
-        want((client.ask("follow"), peer.ask("follow")), (["ok"], ["ok"]))
-        for name in "abc":
-            write(name, octets_of(1, 1_000))
-        want(client.ask("send alice 2 2 a a"), ["queued 1"])
-        want(client.ask("send alice 2 2 b b"), ["queued 2"])
-        want(client.ask('send alice 2 2 c c urgent as "other name"'), ["queued 3"])
-        want(client.ask("release 2"), ["ok"])
-        until(lambda: {path.name for path in other.received().iterdir()} == {"a", "b", "c"}, "all files")
-        client.status()
-        peer.status()
-        want([event["queued"] for event in client.events if event["kind"] == "put"], [3, 1, 2])
-        want({event["to"]: event["file"] for event in peer.events if event.get("name") == "Metadata-Recv"},
-             {"a": "a", "b": "b", "c": "other name"})
-
-
-@case
 def held_at_the_start():
     """With --hold nothing is sent until the link is released; then the first PDU arrives at once, long before a timer."""
     with station(SERVER, options=("--hold",), timer=60_000) as (one, peer):
@@ -175,6 +155,10 @@ def files_that_can_not_be_sent():
         want(second["why"].split()[0], "refused")
         client.wait_event(lambda event: event["kind"] == "put" and event["queued"] == 4, "the last put")
         until(lambda: sorted(path.name for path in other.received().iterdir()) == ["b", "d"], "both files")
+        time.sleep(2)
+        want((client.ask("outbox"), kinds_put(client)), ([], [(2, "b"), (4, "d")]))
+        want(client.ask("put alice 0 2 9 there e"), ["refused 25 UnknownRemote"])
+        want(len([event for event in client.events if event["kind"] == "put"]), 2)
 
 
 def readings(client):
@@ -466,9 +450,7 @@ def packet(apid, pdu):
 @case
 def a_bridge_for_packets():
     """The example of a bridge carries PDUs in packets both ways. It fills in headers, and leaves out packets of others."""
-    with socket.socket(socket.AF_INET, socket.SOCK_DGRAM) as peer, contextlib.ExitStack() as ending:
-        peer.bind(("127.0.0.1", 0))
-        peer.settimeout(20)
+    with socket_of_peer() as peer, contextlib.ExitStack() as ending:
         listen, packets = free_port(), free_port()
         one = Station(SERVER, 1, free_port(), 2, listen, options=("--known-sources",))
         ending.callback(one.close)

@@ -14,8 +14,7 @@ import time
 from unittest import mock
 
 from support import (
-    case, configuration, end_of_file, file_data, in_own_mounts, library, metadata, mounted, run_cases, station, unmount, until,
-    want,
+    case, configuration, end_of_file, file_data, in_own_mounts, library, metadata, run_cases, small_disk, station, until, want,
 )
 
 SERVER = os.path.abspath(sys.argv[1])
@@ -135,10 +134,7 @@ def a_disk_that_is_full_for_a_while():
     """With --retry a file for which the disk has no room is stored once there is some; its sender is answered once."""
     with station(SERVER, options=("--retry", "30")) as (one, peer):
         folder = one.received()
-        why = mounted(folder, "size=64k")
-        if why:
-            return why
-        try:
+        with small_disk(folder, "size=64k"):
             receiver = Receiver(one, peer)
             (folder / "filler").write_bytes(bytes(60_000))
             seq = receiver.send(b"late", bytes(20_000))
@@ -148,9 +144,6 @@ def a_disk_that_is_full_for_a_while():
             want(receiver.stored(seq), ("retained", None))
             want((folder / "late").read_bytes(), bytes(20_000))
             want(receiver.client.status()[0]["counters"]["failed_stores"], 0)
-        finally:
-            unmount(folder)
-    return None
 
 
 @case

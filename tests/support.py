@@ -20,6 +20,10 @@ class Wrong(Exception):
     """A server did something that it should not."""
 
 
+class Skipped(Exception):
+    """A case can't run here, and why."""
+
+
 # The PDUs of a file of three octets, in class 1 from entity 1 to entity 2, the transaction with the number 5.
 METADATA = bytes.fromhex("24000a0001050207000000000301610162")
 FILE_DATA = bytes.fromhex("3400070001050200000000616263")
@@ -96,15 +100,24 @@ def in_own_mounts():
             os.execvp("unshare", [*words, sys.executable, *sys.argv])
 
 
-def mounted(folder, options):
-    """Mounts a small file system in memory at a folder; gives why that isn't possible."""
+@contextlib.contextmanager
+def small_disk(folder, options):
+    """A small file system in memory is mounted at a folder."""
     os.makedirs(folder, exist_ok=True)
     done = subprocess.run(["mount", "-t", "tmpfs", "-o", options, "tmpfs", folder], capture_output=True, check=False)
-    return None if done.returncode == 0 else "no file system can be mounted here"
+    if done.returncode != 0:
+        raise Skipped("no file system can be mounted here")
+    try:
+        yield
+    finally:
+        subprocess.run(["umount", "-l", folder], check=False)
 
 
-def unmount(folder):
-    subprocess.run(["umount", "-l", folder], check=False)
+def fill(path):
+    """Leaves no room on the disk of a file, which takes all that is left."""
+    with contextlib.suppress(OSError), open(path, "wb", buffering=0) as filler:
+        while True:
+            filler.write(bytes(4_096))
 
 
 def fill_backlog(path):
@@ -220,6 +233,26 @@ def configuration(address, users=("alice",), timer=200, limit=2, lanes=2, **valu
     return CONFIG.format(address=address, users=named, **{**keys, **values})
 
 
+def close_run(run):
+    """Kills a program that still runs, and closes its streams."""
+    if run.poll() is None:
+        run.kill()
+    run.wait()
+    for stream in (run.stdin, run.stdout, run.stderr):
+        if stream is not None:
+            with contextlib.suppress(OSError):
+                stream.close()
+
+
+@contextlib.contextmanager
+def socket_of_peer():
+    """A socket on loopback that stands for a remote entity."""
+    with socket.socket(socket.AF_INET, socket.SOCK_DGRAM) as peer:
+        peer.bind(("127.0.0.1", 0))
+        peer.settimeout(20)
+        yield peer
+
+
 class Running:
     """A running server with a control socket."""
 
@@ -240,11 +273,7 @@ class Running:
                 time.sleep(0.02)
 
     def close(self):
-        if self.run.poll() is None:
-            self.run.kill()
-        self.run.wait()
-        for stream in (self.run.stdout, self.run.stderr):
-            stream.close()
+        close_run(self.run)
 
 
 class Station(Running):
@@ -371,9 +400,7 @@ def linked(link, start):
 @contextlib.contextmanager
 def station(server, **named):
     """Station 1 alone; its remote entity 2 is a socket of this script's."""
-    with socket.socket(socket.AF_INET, socket.SOCK_DGRAM) as peer:
-        peer.bind(("127.0.0.1", 0))
-        peer.settimeout(20)
+    with socket_of_peer() as peer:
         one = Station(server, 1, free_port(), 2, peer.getsockname()[1], **named)
         try:
             yield one, peer
@@ -412,8 +439,8 @@ def case(body):
 
 
 def run_cases(subject, cases=CASES):
-    """Runs each case in its own folder; ends with status 1 if one fails. One that can't run here, and says why, fails unless the variable
-    ALLOWED_SKIPS has its name."""
+    """Runs each case in its own folder; ends with status 1 if one fails. One that is skipped fails unless the variable ALLOWED_SKIPS has
+    its name."""
     failed = 0
     allowed = os.environ.get("ALLOWED_SKIPS", "").split(",")
     for body in cases:
@@ -421,12 +448,12 @@ def run_cases(subject, cases=CASES):
         home = tempfile.mkdtemp()
         os.chdir(home)
         try:
-            skipped = body()
-            if skipped:
-                print(f"{subject}, {name}: skipped, since {skipped}")
-                if body.__name__ not in allowed:
-                    print(f"to go on without it, set ALLOWED_SKIPS={body.__name__} (several with commas)")
-                    failed += 1
+            body()
+        except Skipped as why:
+            print(f"{subject}, {name}: skipped, since {why}")
+            if body.__name__ not in allowed:
+                print(f"to go on without it, set ALLOWED_SKIPS={body.__name__} (several with commas)")
+                failed += 1
         except (Wrong, OSError, ValueError, KeyError, TypeError) as why:
             failed += 1
             print(f"{subject}, {name}: {type(why).__name__} {why}")

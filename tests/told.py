@@ -99,8 +99,8 @@ def nothing_without_the_option():
 
 
 # Paths that can't be read, and why; the last one is no text.
-UNREAD = [("gone", "is not there"), ("folder", "is a folder"), ("pipe", "no plain file"), ("a/b", "a part of the path is no folder"),
-          ("circle", "its links lead in a circle"), ("a\\x00", "no such path can be: it is too long, or has a zero octet"),
+UNREAD = [("gone", "is not there"), ("folder", "is a folder"), ("pipe", "not a plain file"), ("a/b", "a part of the path is not a folder"),
+          ("circle", "its links lead in a circle"), ("a\\x00", "the path is too long, or has a zero octet"),
           ("\\xff", "the path is not UTF-8")]
 
 

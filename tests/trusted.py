@@ -10,6 +10,8 @@ import re
 import sys
 import textwrap
 
+from crates import read_layers
+
 TOP = pathlib.Path(__file__).resolve().parent.parent
 PAGE = TOP / "docs" / "trusted.md"
 WIDTH = 120
@@ -149,7 +151,9 @@ datagrams that wait for their lane, their room, and the laws of both: program_pa
 which number begins next toward an entity, and its law; with how many lanes files don't wait: program_lineup/Lineups Counts lineup_laws/LineupLaws
 where a PDU goes, how far its data reaches; when a step's timers expire: program_udp/Peers Reaches program_desk/Steps
 what a program prints for a fault: program_start/Faults
-what the server prints of an answer, and of a configuration that makes little sense; exit status and progress of a put: server_answers/Answers Remarks cfdp_send/Ended Progress
+what a program replies to a command line by which nothing starts: program_replies/Replies
+what the server prints of an answer, of what became of a request, and of a configuration that makes little sense; exit status and progress of a put: server_answers/Answers Remarks server_commands/Outcomes cfdp_send/Ended Progress
+which paths a Unix socket can have: unix_sockets/Addresses
 the texts of configurations that tests read: test_configs/Texts
 """
 
@@ -189,17 +193,6 @@ def file_of(crate, module):
 def heading(title):
     """The heading of a layer."""
     return title[0].upper() + title[1:]
-
-
-def read_crates():
-    """The groups of crates.txt: the text above each, and its crates."""
-    groups = []
-    for line in (TOP / "crates.txt").read_text().partition("\n\n")[2].splitlines():
-        if line.startswith("#"):
-            groups.append((line[1:].strip(), []))
-        elif ":" in line:
-            groups[-1][1].append(line.split(":")[0].split()[0])
-    return groups
 
 
 def read_definitions(crates):
@@ -314,7 +307,7 @@ def counted(files, found):
 
 
 def page():
-    groups = read_crates()
+    groups = read_layers()
     found = read_definitions([crate for _, crates in groups for crate in crates])
     listed = believed(found)
     others = [path for path in listed if found[path].kind != MEANING]

@@ -17,7 +17,7 @@ import subprocess
 import sys
 import time
 
-from support import case, configuration, free_port, pair, run_cases, station, until, want
+from support import Skipped, case, configuration, free_port, pair, run_cases, station, until, want
 
 SERVER = os.path.abspath(sys.argv[1])
 
@@ -377,15 +377,16 @@ def becomes_others():
 def two_users_of_a_group_and_a_third():
     """In a folder whose files are a group's, its users command by a socket with the mode 0660, and others can't open it."""
     if not becomes_others():
-        return "this process can't become other users"
+        raise Skipped("this process can't become other users")
     os.chown(".", -1, 4242)
     os.chmod(".", 0o2755)
     asked = [(4001, 4242), (4002, 4242), (4003, 4003)]
     with station(SERVER, options=("--control-mode", "0660")) as (one, _):
+        one.client().close()
         want([hold_as(one.path, user, group) for user, group in asked], [0, 0, 3])
     with station(SERVER) as (one, _):
+        one.client().close()
         want([hold_as(one.path, user, group) for user, group in asked], [3, 3, 3])
-    return None
 
 
 run_cases("tuning")

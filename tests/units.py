@@ -14,7 +14,7 @@ import shutil
 import subprocess
 import sys
 
-from support import Client, Wrong, case, run_cases, until, want
+from support import Client, Skipped, Wrong, case, close_run, run_cases, until, want
 
 SERVER, CTL = (os.path.abspath(path) for path in sys.argv[1:3])
 EXAMPLES = pathlib.Path(__file__).resolve().parent.parent / "examples"
@@ -48,6 +48,12 @@ def the_unit_of_the_server():
     shutil.copy(EXAMPLES / "station.toml", "etc/cfdp/station.toml")
     checked = subprocess.run(placed(unit["ExecStartPre"]), capture_output=True, text=True, timeout=20, check=False)
     want((checked.returncode, checked.stdout, checked.stderr), (0, "ok\n", ""))
+    given = pathlib.Path("etc/cfdp/station.toml").read_text()
+    pathlib.Path("etc/cfdp/station.toml").write_text(given.replace("\nid_octets = 1\n", "\nid_octets = 9\n"))
+    wrong = subprocess.run(placed(unit["ExecStartPre"]), capture_output=True, text=True, timeout=20, check=False)
+    line = given.splitlines().index("id_octets = 1") + 1
+    want((wrong.returncode, f"line {line}" in wrong.stdout + wrong.stderr, "id_octets" in wrong.stdout + wrong.stderr), (1, True, True))
+    pathlib.Path("etc/cfdp/station.toml").write_text(given)
     words = placed(unit["ExecStart"])
     for word in words[1:]:
         known = [os.getcwd() + folder for folder in folders("cfdp_server.service")] + [os.getcwd() + "/etc/cfdp"]
@@ -68,11 +74,7 @@ def the_unit_of_the_server():
         ended = subprocess.run(placed(unit["ExecStop"]), capture_output=True, text=True, timeout=20, check=False)
         want((ended.returncode, ended.stdout, run.wait(20), run.stderr.read()), (0, "ok\n", 0, b""))
     finally:
-        if run.poll() is None:
-            run.kill()
-        run.wait()
-        run.stdout.close()
-        run.stderr.close()
+        close_run(run)
 
 
 @case
@@ -89,7 +91,7 @@ def what_is_rotated():
 def units_that_systemd_takes():
     verifier = shutil.which("systemd-analyze")
     if verifier is None:
-        return "systemd-analyze is not here"
+        raise Skipped("systemd-analyze is not here")
     os.makedirs("bin")
     for name in ("cfdp_server", "cfdp_ctl", "cfdp_web"):
         pathlib.Path("bin", name).touch(0o755)
@@ -99,7 +101,6 @@ def units_that_systemd_takes():
         pathlib.Path(unit.name).write_text(unit.read_text().replace("/usr/local/bin", os.path.abspath("bin")))
     done = subprocess.run([verifier, "verify", "--man=no", *units], capture_output=True, text=True, timeout=60, check=False)
     want((done.returncode, done.stdout, done.stderr), (0, "", ""))
-    return None
 
 
 run_cases("units")

@@ -6,6 +6,7 @@ import http.client
 import json
 import os
 import re
+import select
 import signal
 import socket
 import subprocess
@@ -324,9 +325,31 @@ def slow(port):
     check("a client that drips its head is closed after ten seconds", len(closed) == 16 and all(9 < at < 25 for at in closed.values()))
 
 
+def silent(port):
+    """A connection that sends nothing is closed after two seconds. One that has sent an octet has ten for its request, and one that was
+    answered as many for the next."""
+    kept = http.client.HTTPConnection("127.0.0.1", port, timeout=15)
+    kept.request("GET", "/healthz", headers={"Host": f"127.0.0.1:{port}"})
+    kept.getresponse().read()
+    begun = time.monotonic()
+    mute, begins = ([socket.create_connection(("127.0.0.1", port), timeout=20) for _ in range(4)] for _ in range(2))
+    [one.sendall(b"G") for one in begins]
+    closed = [(one.recv(1), time.monotonic() - begun) for one in mute]
+    times = ", ".join(f"{at:.2f} s" for _, at in closed)
+    check(f"a connection that sends nothing is closed after two seconds: {times}", all(octets == b"" and 1.5 < at < 8 for octets, at in closed))
+    time.sleep(max(0, begun + 4 - time.monotonic()))
+    check("one that has sent an octet is open after four", not select.select(begins, [], [], 0)[0])
+    [one.sendall(f"ET /healthz HTTP/1.1\r\nHost: 127.0.0.1:{port}\r\n\r\n".encode()) for one in begins]
+    check("and is answered", all(one.recv(100).startswith(b"HTTP/1.1 200 ") for one in begins))
+    first = kept.sock
+    kept.request("GET", "/healthz", headers={"Host": f"127.0.0.1:{port}"})
+    check("one that was answered is answered again after four", kept.getresponse().status == 200 and kept.sock is first)
+    [one.close() for one in (*mute, *begins, kept)]
+
+
 def crowd(port):
     """With 200 pages that are open, as a browser keeps them, and 200 silent connections others are answered within a second."""
-    silent = [socket.create_connection(("127.0.0.1", port)) for _ in range(200)]
+    quiet, opened = [], 0
     pages = [http.client.HTTPConnection("127.0.0.1", port, timeout=15) for _ in range(200)]
     wrong, ended = [], threading.Event()
 
@@ -336,13 +359,18 @@ def crowd(port):
                 page.request("GET", "/status.json", headers={"Host": f"127.0.0.1:{port}"})
             for page in pages:
                 answer = page.getresponse()
-                if answer.status != 200 or not answer.read():
+                body = answer.read()
+                if answer.status != 200 or not body:
                     wrong.append(answer.status)
             ended.wait(1)
     looking = threading.Thread(target=look)
     looking.start()
     times = []
     for _ in range(10):
+        # the console closes them after two seconds
+        if time.monotonic() - opened > 1.5:
+            [one.close() for one in quiet]
+            quiet, opened = [socket.create_connection(("127.0.0.1", port)) for _ in range(200)], time.monotonic()
         begun = time.monotonic()
         if ask(port, "/healthz")[0] != 200:
             wrong.append("/healthz")
@@ -354,7 +382,7 @@ def crowd(port):
     check(f"200 pages and 200 silent connections: all answered {wrong[:3]}", not wrong)
     # a busy machine may hold up one or two
     check(f"200 pages and 200 silent connections: /healthz in {times[7]:.2f} s, at most {times[9]:.2f} s", times[7] < 1 and times[9] < 5)
-    [one.close() for one in pages + silent]
+    [one.close() for one in pages + quiet]
     more = [socket.create_connection(("127.0.0.1", port)) for _ in range(600)]
     answered = []
     took = fastest(3, lambda: answered.append(ask(port, "/healthz")[0]))
@@ -441,6 +469,7 @@ def main():
     routes(port)
     refusals(port)
     many(port)
+    silent(port)
     crowd(port)
     stopped(port, station)
     old = event_ids(port)

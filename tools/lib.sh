@@ -6,7 +6,10 @@ set -euo pipefail
 top=$(realpath "$(dirname "$0")/..")
 archive=$(realpath "$1") prefix=${2:-/usr/local}
 heap=$(dirname "$(rt doc)")/c/liblibc_c.a
-room=$top/build version=0.1
+room=$top/build
+# the version that the programs have, too
+version=$(sed -n 's/.*concat!(\$before, "\([^"]*\)", \$after).*/\1/p' "$top/crates/release/src/lib.rt")
+[ -n "$version" ]
 mkdir -p "$room"
 rm -f "$room"/libcfdp.* "$room"/cfdp.*
 

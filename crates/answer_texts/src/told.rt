@@ -164,8 +164,9 @@ fn push_messages(alloc: Global, text: &mut String, messages: &Messages) -> Resul
 fn push_value(text: &mut String, number: u64) -> Result<(), AllocError>
     ensures { OnOk result (string_bytes text.new ≡ string_bytes text.old ++ (codes " " ++ decimal number)) }
 {
+    let mut digits = itoa::Buffer::new();
     text.push_str(" ")?;
-    write!(text, "{number}")
+    text.push_str(digits.format(number))
 }
 
 // Appends a space and a word.

@@ -21,7 +21,7 @@ const LONG_MILLIS: u64 = 120_000;
 // How many milliseconds to wait before the next attempt to reach a server that went away.
 const REST_MILLIS: u64 = 500;
 
-/// A connection to a server, and how long the server may take to answer.
+/// A connection to a server, and how long the server may take to reply.
 #[derive(Drop)]
 pub(crate) struct Line {
     pub(crate) station: Station,
@@ -52,7 +52,7 @@ impl Line {
         }
     }
 
-    /// The lines of the answer to a command.
+    /// The lines of the reply to a command.
     pub(crate) fn ask<R: Clock + Wait>(
         &mut self,
         rt: &R,
@@ -61,7 +61,7 @@ impl Line {
         Ok(self.station.ask(rt, command, self.limit)?)
     }
 
-    /// The lines of the answer to a command that a server works on for longer, and whose answer may be large.
+    /// The lines of the reply to a command that a server works on for longer, and whose reply may be large.
     pub(crate) fn ask_patiently<R: Clock + Wait>(
         &mut self,
         rt: &R,
@@ -116,7 +116,7 @@ where
     Err(CtlFault::Station(StationFault::NoServer))
 }
 
-/// The first line of an answer, without its line feed.
+/// The first line of a reply, without its line feed.
 pub(crate) fn first_line(answer: &[u8]) -> &[u8] {
     match answer.iter().position(|octet| *octet == b'\n') {
         Some(at) => &answer[..at],

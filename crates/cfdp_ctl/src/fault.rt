@@ -7,7 +7,7 @@ use std::alloc::AllocError;
 /// Why the program ends.
 #[derive(Clone, Copy)]
 pub(crate) enum CtlFault {
-    /// The server doesn't answer.
+    /// The server doesn't reply.
     Station(StationFault),
     /// The words of the command line aren't UTF-8.
     Words,

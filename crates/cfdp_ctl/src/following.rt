@@ -67,7 +67,7 @@ where
 }
 
 /// Asks the server to send events, of a level and above if one is given, first the last ones that it has kept if their number is given.
-/// If it refuses, its answer is printed. Returns the exit status for that answer.
+/// If it refuses, its reply is printed. Returns the exit status for that reply.
 pub(crate) fn ask_for_events<R, W, E>(
     rt: &R,
     alloc: Global,

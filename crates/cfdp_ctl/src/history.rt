@@ -24,7 +24,7 @@ struct Reading {
     sums: Sums,
 }
 
-/// Prints the transactions that ended, log by log, and their sums; answers the exit status.
+/// Prints the transactions that ended, log by log, and their sums; returns the exit status.
 pub(crate) fn print_history<R, W, E>(
     rt: &R,
     alloc: Global,

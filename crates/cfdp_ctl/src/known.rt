@@ -44,7 +44,7 @@ fn known_in(alloc: Global, answer: &[u8]) -> Result<Known, AllocError> {
 }
 
 /// The user whose files are sent: the one that the command line names, or the server's only one. If it has several, or
-/// not this one, or not the entity that receives the files, prints what it has and answers `None`.
+/// not this one, or not the entity that receives the files, prints what it has and returns `None`.
 pub(crate) fn user_for<W: Write + Drop, E: Write + Drop>(
     alloc: Global,
     screen: &mut Screen<W, E>,

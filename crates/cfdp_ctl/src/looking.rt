@@ -10,7 +10,7 @@ use std::sync::Wait;
 use std::thread;
 use std::time::{Clock, Duration};
 
-/// Prints the status, once or each second, and answers the exit status.
+/// Prints the status, once or each second, and returns the exit status.
 pub(crate) fn look<R, W, E>(
     rt: &R,
     alloc: Global,
@@ -88,7 +88,7 @@ fn print_status<W: Write + Drop, E: Write + Drop>(
     }
 }
 
-/// Prints the files that wait in the outbox, and answers the exit status.
+/// Prints the files that wait in the outbox, and returns the exit status.
 pub(crate) fn look_at_outbox<R, W, E>(
     rt: &R,
     alloc: Global,

@@ -6,8 +6,6 @@ mod asking;
 mod fault;
 mod following;
 mod history;
-mod hot_files;
-mod hot_folder;
 mod known;
 mod looking;
 mod paths;

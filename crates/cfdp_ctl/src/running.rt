@@ -19,7 +19,7 @@ use std::rt::Files;
 use std::sync::Wait;
 use std::time::Clock;
 
-/// Does what the command line asks for, and answers the exit status.
+/// Does what the command line asks for, and returns the exit status.
 pub(crate) fn run<R, W, E>(rt: &R, alloc: Global, screen: &mut Screen<W, E>) -> u8
 where
     R: Net + Clock + Wait + Env + Files + Input + AllocGlobal + Copy + Drop,
@@ -64,7 +64,7 @@ where
     }
 }
 
-// Reports a fault, and answers its exit status.
+// Reports a fault, and returns its exit status.
 fn told<W: Write + Drop, E: Write + Drop>(
     alloc: Global,
     screen: &mut Screen<W, E>,
@@ -95,7 +95,7 @@ fn words_status<W: Write + Drop, E: Write + Drop>(
     }
 }
 
-// Prints a text, and answers the exit status.
+// Prints a text, and returns the exit status.
 fn printed<W: Write + Drop, E: Write + Drop>(
     alloc: Global,
     screen: &mut Screen<W, E>,

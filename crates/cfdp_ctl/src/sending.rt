@@ -54,7 +54,14 @@ struct Origin {
     folder: Folder,
 }
 
-/// Puts files in the outbox and, if asked to, waits for their ends. Answers the exit status.
+// The files that the server put in the outbox, and whether it took all of them.
+#[derive(Drop)]
+struct Queued<'a> {
+    files: SentFiles<'a>,
+    all_taken: bool,
+}
+
+/// Puts files in the outbox and, if asked to, waits for their ends. Returns the exit status.
 pub(crate) fn send<R, W, E>(
     rt: &R,
     alloc: Global,
@@ -79,8 +86,9 @@ where
             return Ok(status);
         }
     }
-    let mut files = SentFiles::new(alloc);
-    let all_taken = queue_all(rt, alloc, screen, line, words, &origin, &mut files)?;
+    let queued = queue_all(rt, alloc, screen, line, words, &origin)?;
+    let Queued { files, all_taken } = queued;
+    let mut files = files;
     let is_reported = words.class != 1 || words.is_closed;
     if words.wait {
         wait_for_ends(rt, alloc, screen, line, is_reported, &mut files)?;
@@ -89,7 +97,7 @@ where
     Ok(send_status(all_taken, words.wait, all_arrived))
 }
 
-// Puts each file in the outbox; answers whether the server took all of them.
+// Puts each file in the outbox.
 fn queue_all<'a, R, W, E>(
     rt: &R,
     alloc: Global,
@@ -97,14 +105,14 @@ fn queue_all<'a, R, W, E>(
     line: &mut Line,
     words: &SendWords<'a>,
     origin: &Origin,
-    files: &mut SentFiles<'a>,
-) -> Result<bool, CtlFault>
+) -> Result<Queued<'a>, CtlFault>
 where
     R: Clock + Wait,
     W: Write + Drop,
     E: Write + Drop,
 {
-    let mut all = true;
+    let mut files = SentFiles::new(alloc);
+    let mut all_taken = true;
     for path in words.files.as_slice() {
         let command = command_for(alloc, words, origin, path)?;
         let answer = line.ask(rt, command.as_slice())?;
@@ -115,15 +123,15 @@ where
                 print_queued(alloc, screen, path, number)?;
             }
             None => {
-                all = false;
+                all_taken = false;
                 complain_of(alloc, screen, path, answer)?;
             }
         }
     }
-    Ok(all)
+    Ok(Queued { files, all_taken })
 }
 
-/// The number in an answer such as `queued 12`.
+/// The number in a reply such as `queued 12`.
 pub(crate) fn number_of(line: &[u8]) -> Option<u64> {
     let text = str::from_utf8(line).ok()?;
     text.strip_prefix("queued ")?.parse::<u64>().ok()

@@ -67,7 +67,7 @@ impl<'a> SentFiles<'a> {
         Ok(())
     }
 
-    /// Handles an event; answers the place of the file that it ends, if it ends one.
+    /// Handles an event; returns the place of the file that it ends, if it ends one.
     pub(crate) fn take(&mut self, event: &Event) -> Result<Option<usize>, AllocError> {
         match event.step {
             Step::Started(number) => {
@@ -122,7 +122,7 @@ impl<'a> SentFiles<'a> {
         Ok(())
     }
 
-    // Notes that a file has ended; answers its place, if it had not ended before.
+    // Notes that a file has ended; returns its place, if it had not ended before.
     fn end(&mut self, place: Option<usize>, fate: Fate) -> Option<usize> {
         let place = place?;
         let file = self.files.get_mut(place)?;

@@ -12,7 +12,7 @@ use std::time::Clock;
 // The most octets of a command that are read, line feed included: one more than a server takes.
 const COMMAND_OCTETS: u64 = 131_073;
 
-/// Sends a command, prints its answer, and answers the exit status.
+/// Sends a command, prints the reply, and returns the exit status.
 pub(crate) fn run_command<R, W, E>(
     rt: &R,
     alloc: Global,
@@ -30,7 +30,7 @@ where
     Ok(exit_status(outcome_of(first_line(answer.as_slice()))))
 }
 
-/// Prints a transaction as a script, and answers the exit status.
+/// Prints a transaction as a script, and returns the exit status.
 pub(crate) fn print_journal<R, W, E>(
     rt: &R,
     alloc: Global,

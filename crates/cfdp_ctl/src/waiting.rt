@@ -140,7 +140,7 @@ fn note_all(alloc: Global, files: &mut SentFiles<'_>, answer: &[u8]) -> Result<(
     Ok(())
 }
 
-// Adds a line for each file that is being sent, and one for those that wait; answers how many lines these are.
+// Adds a line for each file that is being sent, and one for those that wait; returns how many lines these are.
 fn push_lines(alloc: Global, page: &mut Page, files: &[SentFile<'_>]) -> Result<usize, AllocError> {
     let mut count = 0usize;
     let mut others = 0usize;

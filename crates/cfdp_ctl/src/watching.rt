@@ -2,16 +2,15 @@
 use crate::asking::{Line, first_line, line_again, may_return};
 use crate::fault::CtlFault;
 use crate::following::ask_for_events;
-use crate::hot_files::HotFiles;
-use crate::hot_folder::{
-    FAILED, Listing, SENT, is_unchanged, keep_file, list, make_folders, was_sent,
-};
 use crate::known::{ask_for_known, user_for};
 use crate::paths::{Folder, target_name, whole_path};
 use crate::reasons::reason_of;
 use crate::screen::Screen;
 use crate::sending::{number_of, print_queued};
 use crate::sent::{Fate, has_arrived, send_status};
+use ctl_folder::{
+    FAILED, HotFiles, Listing, SENT, is_unchanged, keep_file, list, make_folders, was_sent,
+};
 use ctl_views::{Event, Page, Place, Step, Tone, read_event, read_under_way};
 use ctl_watch::Sight;
 use ctl_words::{SendCommand, WatchWords, send_command};
@@ -44,7 +43,7 @@ where
 {
     let reason = match fs::metadata(rt, path) {
         Ok(metadata) if metadata.is_dir() => return Ok(true),
-        Ok(_) => "it is no folder",
+        Ok(_) => "it is not a folder",
         Err(error) => reason_of(&error),
     };
     complain(alloc, screen, path, reason)?;
@@ -66,7 +65,7 @@ struct Watching<'a> {
 }
 
 /// Sends each file that comes into the folder, and moves it once it has ended; waits for the server where it goes away. With
-/// `once`, answers the exit status once no file is left.
+/// `once`, returns the exit status once no file is left.
 pub(crate) fn watch<R, W, E>(
     rt: &R,
     alloc: Global,
@@ -119,7 +118,7 @@ fn watching_for<'a, R: Env + AllocGlobal>(
     })
 }
 
-// Begins with a server: finds the user, follows its events, and learns which files of the folder it has. Answers an exit status
+// Begins with a server: finds the user, follows its events, and learns which files of the folder it has. Returns an exit status
 // if that ends the program.
 fn begin<R, W, E>(
     rt: &R,
@@ -175,7 +174,7 @@ fn name_in<'a>(folder: &str, path: &'a str) -> Option<&'a str> {
     path.strip_prefix(folder)?.strip_prefix("/")
 }
 
-// Handles the events that came, looks at the folder, and sends what is ready. Answers the exit status once no file is left, if
+// Handles the events that came, looks at the folder, and sends what is ready. Returns the exit status once no file is left, if
 // that ends the program, or if the folder can't be read.
 fn turn<R, W, E>(
     rt: &R,
@@ -405,11 +404,24 @@ where
                 "it is in sent already, and isn't sent again",
             )?;
             watching.files.refuse(name.as_str());
-        } else if !send_one(rt, alloc, screen, line, watching, name.as_str(), sight)? {
+            continue;
+        }
+        let ready = Ready {
+            name: name.as_str(),
+            sight,
+        };
+        if !send_one(rt, alloc, screen, line, watching, ready)? {
             break;
         }
     }
     Ok(())
+}
+
+// A file that is ready to be sent, and how it was seen.
+#[derive(Clone, Copy)]
+struct Ready<'a> {
+    name: &'a str,
+    sight: Sight,
 }
 
 // Puts a file in the outbox; false if that has to wait.
@@ -419,14 +431,14 @@ fn send_one<R, W, E>(
     screen: &mut Screen<W, E>,
     line: &mut Line,
     watching: &mut Watching<'_>,
-    name: &str,
-    sight: Sight,
+    ready: Ready<'_>,
 ) -> Result<bool, CtlFault>
 where
     R: Clock + Wait + Files,
     W: Write + Drop,
     E: Write + Drop,
 {
+    let Ready { name, sight } = ready;
     let command = command_for(alloc, watching, name)?;
     let answer = line.ask(rt, command.as_slice())?;
     let answer = first_line(answer.as_slice());

@@ -1,7 +1,8 @@
 //! Sends one file by CFDP over UDP, and prints the indications of its user.
 #![tactic(auto)]
 
-use cfdp_send::{Outputs, put_one, tell_words_fault};
+use cfdp_send::{Outputs, put_one};
+use program_replies::tell_words_fault;
 use program_words::line_of;
 use std::io;
 use std::io::IsTerminal;
@@ -17,7 +18,7 @@ fn main(rt: HostRuntime) -> ExitCode {
             let outputs = Outputs::new(io::writer(&rt), progress);
             put_one(rt, words.as_slice(), outputs, &mut rt.stderr(), is_terminal)
         }
-        Err(fault) => tell_words_fault(rt.alloc(), &mut rt.stderr(), fault),
+        Err(fault) => tell_words_fault(rt.alloc(), &mut rt.stderr(), "cfdp_put", fault),
     };
     ExitCode::from(status)
 }

@@ -6,7 +6,7 @@ use std::alloc::Global;
 use std::io::Write;
 
 /// Prints what the datagram says that a word writes in hex: a line for its header and one for its body, or one for the
-/// fault of decoding it. Answers the exit status: 1 for such a fault.
+/// fault of decoding it. Returns the exit status: 1 for such a fault.
 pub(crate) fn explain<W: Write>(
     alloc: Global,
     output: &mut W,

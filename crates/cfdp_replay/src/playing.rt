@@ -1,11 +1,11 @@
 //! Does what the command line asks for.
 use crate::explaining::explain;
 use crate::words::{ReplayWords, replay_help, replay_version, replay_words};
+use program_replies::{asked_text, fault_of};
 use program_start::{ProgramFault, load_config, print, tell_fault};
 use program_words::{WordsFault, line_of};
 use script_explained::explain_to_end;
 use script_replay::{AnswerPace, Session, play_to_end, play_with};
-use std::alloc::Global;
 use std::env::Env;
 use std::fs::File;
 use std::io;
@@ -15,7 +15,7 @@ use std::rt::Files;
 // The name that the program's faults begin with.
 const NAME: &str = "cfdp_replay";
 
-/// Does what the command line asks for, with these standard streams. Answers the exit status.
+/// Does what the command line asks for, with these standard streams. Returns the exit status.
 pub(crate) fn run<R, I, W, E>(
     rt: &R,
     input: &mut I,
@@ -34,7 +34,7 @@ where
         Ok(line) => match replay_words(alloc, line.as_slice()) {
             Ok(words) => match words.datagram {
                 Some(datagram) => explain(alloc, output, datagram),
-                None => play(rt, alloc, &words, input, output, errors, pace),
+                None => play(rt, &words, input, output, errors, pace),
             },
             Err(fault) => answer(output, fault),
         },
@@ -51,26 +51,13 @@ where
 
 // Prints the help or the version if the words ask for it.
 fn answer<W: Write>(output: &mut W, fault: WordsFault) -> Result<u8, ProgramFault> {
-    match fault {
-        WordsFault::Help => print(output, replay_help())?,
-        WordsFault::Version => print(output, replay_version())?,
-        _ => return Err(fault_of(fault)),
-    }
+    print(output, asked_text(fault, replay_help(), replay_version())?)?;
     Ok(0)
-}
-
-// The fault of a program whose words have one.
-fn fault_of(fault: WordsFault) -> ProgramFault {
-    match fault {
-        WordsFault::NoMemory => ProgramFault::NoMemory,
-        _ => ProgramFault::Usage,
-    }
 }
 
 // Plays the script that the words name, or else the standard input.
 fn play<R, I, W, E>(
     rt: &R,
-    alloc: Global,
     words: &ReplayWords<'_>,
     input: &mut I,
     output: &mut W,
@@ -78,17 +65,17 @@ fn play<R, I, W, E>(
     pace: AnswerPace,
 ) -> Result<u8, ProgramFault>
 where
-    R: Files,
+    R: Files + AllocGlobal,
     I: Read,
     W: Write,
     E: Write,
 {
     match words.script {
-        None => play_from(rt, alloc, words, input, output, errors, pace),
+        None => play_from(rt, words, input, output, errors, pace),
         Some(path) => match File::open(rt, path) {
             Ok(file) => {
                 let mut file = file;
-                play_from(rt, alloc, words, &mut file, output, errors, pace)
+                play_from(rt, words, &mut file, output, errors, pace)
             }
             Err(error) => Err(unopened(&error)),
         },
@@ -107,7 +94,6 @@ fn unopened(error: &io::Error) -> ProgramFault {
 // Plays a script that begins with the configuration in a file, or with the reference configuration.
 fn play_from<R, S, W, E>(
     rt: &R,
-    alloc: Global,
     words: &ReplayWords<'_>,
     script: &mut S,
     output: &mut W,
@@ -115,11 +101,12 @@ fn play_from<R, S, W, E>(
     pace: AnswerPace,
 ) -> Result<u8, ProgramFault>
 where
-    R: Files,
+    R: Files + AllocGlobal,
     S: Read,
     W: Write,
     E: Write,
 {
+    let alloc = rt.alloc();
     let config = match words.config {
         None => None,
         Some(path) => Some(load_config(rt, alloc, path)?),

@@ -2,6 +2,7 @@
 use clap::error::ErrorKind;
 use clap::{Arg, ArgAction, ArgMatches, Command, Error};
 use program_words::WordsFault;
+use release::{VERSION, versioned};
 use std::alloc::{AllocError, Global};
 use std::env::{Env, FillError};
 
@@ -31,8 +32,8 @@ Usage: cfdp_replay [--config FILE] [--explain] [SCRIPT]
   --help             prints this, and ends
   --version          prints the version, and ends
 
-Status 0: the whole script was played, or the datagram is a PDU. 1: a line is bad, the datagram is
-no PDU, or a fault of the program.
+Status 0: the whole script was played, or the datagram is a PDU. 1: a line is bad, the datagram
+isn't a PDU, or a fault of the program.
 ";
 
 /// What `--help` prints.
@@ -42,10 +43,10 @@ pub(crate) fn replay_help() -> &'static str {
 
 /// What `--version` prints.
 pub(crate) fn replay_version() -> &'static str {
-    "cfdp_replay 0.1\n"
+    versioned!("cfdp_replay ", "\n")
 }
 
-/// Whether the command line has words behind the program's own name. It allocates nothing.
+/// Whether the command line has words after the program's own name. It allocates nothing.
 pub(crate) fn has_words<R: Env>(rt: &R) -> bool {
     let mut room = [0; 1];
     !matches!(rt.arg(1, &mut room), Err(FillError::NotPresent))
@@ -59,7 +60,7 @@ fn valued<'a>(alloc: Global, name: &'static str) -> Arg<'a> {
 // The options and words of the program.
 fn command<'a>(alloc: Global) -> Result<Command<'a>, AllocError> {
     Command::new(alloc, "cfdp_replay")
-        .version("0.1")
+        .version(VERSION)
         .arg(valued(alloc, "config"))?
         .arg(
             Arg::new(alloc, "explain")

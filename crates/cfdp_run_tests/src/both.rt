@@ -1,7 +1,7 @@
 //! Both ends in one process.
 use crate::lines::words;
 use cfdp_send::{Outputs, put_one};
-use cfdp_serve::{ServerFiles, serve};
+use cfdp_serve::{ServerFiles, Streams, serve};
 use program_start::{FileReader, RuntimeFiles};
 use std::alloc::{AllocError, Global};
 use std::net::Net;
@@ -77,21 +77,17 @@ fn take_all<R: Wait + Clock>(rt: &R, alloc: Global, pipes: &Pipes) -> Option<Str
     None
 }
 
-// Runs the server; answers the exit status.
+// Runs the server; returns the exit status.
 fn run_server<
     R: Threads + Wait + Clock + Net + Files + AllocGlobal + Copy + Drop + Send + Sync,
     F: FileReader + ServerFiles + Sync,
 >(rt: &R, files: &F, alloc: Global, pipes: &Pipes, line: &[String]) -> u8 {
     let mut errors = Vec::new(alloc);
-    let status = serve(
-        *rt,
-        files,
-        line,
-        pipes.reader(rt),
-        pipes.writer(rt),
-        &mut errors,
-        false,
-    );
+    let streams = Streams {
+        reader: pipes.reader(rt),
+        writer: pipes.writer(rt),
+    };
+    let status = serve(*rt, files, line, streams, &mut errors, false);
     pipes.ended(rt);
     status
 }

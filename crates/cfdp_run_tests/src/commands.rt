@@ -1,6 +1,6 @@
 //! The server alone: commands.
 use crate::lines::words;
-use cfdp_serve::{ServerFiles, serve};
+use cfdp_serve::{ServerFiles, Streams, serve};
 use program_start::{FileReader, RuntimeFiles};
 use std::alloc::{AllocError, Global};
 use std::fs;
@@ -73,7 +73,11 @@ fn is_answered<
     let alloc: Global = rt.alloc();
     let mut written = Vec::new(alloc);
     let mut errors = Vec::new(alloc);
-    let status = serve(rt, files, words, lines, &mut written, &mut errors, false);
+    let streams = Streams {
+        reader: lines,
+        writer: &mut written,
+    };
+    let status = serve(rt, files, words, streams, &mut errors, false);
     status == 0 && written.as_slice() == text.as_bytes() && errors.is_empty()
 }
 

@@ -1,7 +1,7 @@
 //! A server that has to end while a received file waits to be stored.
 use crate::commands::config_of;
 use crate::lines::words;
-use cfdp_serve::{ServerFiles, serve};
+use cfdp_serve::{ServerFiles, Streams, serve};
 use program_start::{FileReader, RuntimeFiles};
 use std::alloc::Global;
 use std::net::{Net, UdpSocket};
@@ -30,21 +30,17 @@ const LOOKS: u32 = 20_000;
 
 const PAUSE_MICROSECONDS: u64 = 500;
 
-// Runs the server; answers the exit status.
+// Runs the server; returns the exit status.
 fn run_server<
     R: Threads + Wait + Clock + Net + Files + AllocGlobal + Copy + Drop + Send + Sync,
     F: FileReader + ServerFiles + Sync,
 >(rt: &R, files: &F, alloc: Global, pipes: &Pipes, line: &[String]) -> u8 {
     let mut errors = Vec::new(alloc);
-    let status = serve(
-        *rt,
-        files,
-        line,
-        pipes.reader(rt),
-        pipes.writer(rt),
-        &mut errors,
-        false,
-    );
+    let streams = Streams {
+        reader: pipes.reader(rt),
+        writer: pipes.writer(rt),
+    };
+    let status = serve(*rt, files, line, streams, &mut errors, false);
     pipes.ended(rt);
     status
 }
@@ -62,7 +58,7 @@ fn deliver<R: Wait + Clock>(
         && pipes.ask_until(rt, alloc, TRACE, OPEN)
 }
 
-// Waits until a file has these octets; answers whether it has.
+// Waits until a file has these octets; returns whether it has.
 fn await_file<R: Files + Clock + AllocGlobal>(rt: &R, path: &str, octets: &[u8]) -> bool {
     for _ in 0..LOOKS {
         if fs::read(rt, path).is_ok_and(|found| found.as_slice() == octets) {

@@ -9,4 +9,4 @@ mod refusing;
 mod threads;
 
 pub use outputs::Outputs;
-pub use putting::{put_one, tell_words_fault};
+pub use putting::put_one;

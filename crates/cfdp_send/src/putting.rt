@@ -5,6 +5,7 @@ use crate::threads::{Run, Wanted};
 use cfdp_types::{PutFault, PutRequest};
 use entity_config::{Config, Setting};
 use program_numbers::{HeldNumbers, Puts};
+use program_replies::asked_text;
 use program_start::{
     ProgramFault, Started, load_config, load_file, push_explanation, tell_explanation, tell_fault,
 };
@@ -74,11 +75,7 @@ fn tell_about<W: Write + Drop, P: Write + Drop>(
     outputs: &mut Outputs<W, P>,
     fault: WordsFault,
 ) -> Result<u8, ProgramFault> {
-    match fault {
-        WordsFault::Help => outputs.tell(put_help())?,
-        WordsFault::Version => outputs.tell(put_version())?,
-        _ => return Err(fault_of(fault)),
-    }
+    outputs.tell(asked_text(fault, put_help(), put_version())?)?;
     Ok(0)
 }
 
@@ -108,7 +105,7 @@ fn push_meaning<R: Net + Files>(
         return push_usage(rt, alloc, text, line);
     }
     if let Ok(path) = check_words(alloc, line) {
-        let started = started_with(path);
+        let started = Started::with_config(path);
         return push_explanation(rt, alloc, text, &started, fault);
     }
     match put_words(alloc, line) {
@@ -157,18 +154,6 @@ fn push_unfit<R: Files>(
     }
 }
 
-// The path that explanations of a check mention.
-fn started_with(config: &str) -> Started<'_> {
-    Started {
-        config,
-        bind: "",
-        control: None,
-        numbers: None,
-        outbox: None,
-        source: None,
-    }
-}
-
 // The paths and addresses that explanations of a put mention.
 fn started_by<'a>(words: &PutWords<'a>) -> Started<'a> {
     Started {
@@ -178,20 +163,6 @@ fn started_by<'a>(words: &PutWords<'a>) -> Started<'a> {
         numbers: words.numbers,
         outbox: None,
         source: Some(words.source),
-    }
-}
-
-/// Reports why the command line has no words; answers the exit status.
-pub fn tell_words_fault<E: Write>(alloc: Global, errors: &mut E, fault: WordsFault) -> u8 {
-    tell_fault(alloc, errors, "cfdp_put", &fault_of(fault));
-    1
-}
-
-// The program's fault for a fault of its words.
-fn fault_of(fault: WordsFault) -> ProgramFault {
-    match fault {
-        WordsFault::NoMemory => ProgramFault::NoMemory,
-        _ => ProgramFault::Usage,
     }
 }
 

@@ -1,10 +1,10 @@
-//! Where answers go.
+//! Where replies go.
 use program_seats::{Asker, Seats};
 use program_start::{ProgramFault, print};
 use std::io::Write;
 use std::sync::Wait;
 
-/// Where answers go: they are printed, or sent to the client that asked.
+/// Where replies go: they are printed, or sent to the client that asked.
 #[derive(Drop)]
 pub(crate) enum Console<'a, W: Drop> {
     Printed(W),
@@ -20,7 +20,7 @@ impl<'a, W: Write + Drop> Console<'a, W> {
         }
     }
 
-    /// Gives an answer, and what users received meanwhile, to who asked.
+    /// Gives a reply, and what users received meanwhile, to whoever asked.
     pub(crate) fn answer<R: Wait>(
         &mut self,
         rt: &R,
@@ -45,7 +45,7 @@ impl<'a, W: Write + Drop> Console<'a, W> {
     }
 }
 
-// Sends an answer to the client that asked, with the line that ends it. Where there is no memory for that line, the client is cut
+// Sends a reply to the client that asked, with the line that ends it. If memory for that line runs out, the client is cut
 // off.
 fn send<R: Wait>(rt: &R, seats: &Seats, asker: Option<Asker>, text: &mut String) {
     let Some(asker) = asker else {

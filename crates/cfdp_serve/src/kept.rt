@@ -107,7 +107,7 @@ fn fault_of(why: HeldFault) -> ProgramFault {
     }
 }
 
-// The folder of a path, and the name behind it.
+// The folder of a path, and the name after it.
 fn parts_of(path: &str) -> (&str, &str) {
     match path.rsplit_once('/') {
         None => (".", path),

@@ -12,4 +12,4 @@ mod watched;
 mod working;
 
 pub use server_recording::{FolderStoring, ServerFiles};
-pub use serving::{serve, tell_words_fault};
+pub use serving::{Streams, serve};

@@ -5,6 +5,7 @@ use crate::threads::{Given, Sockets, Starting};
 use crate::watched::{open_watched, push_socket_cause};
 use entity_config::Config;
 use program_control::ControlSocket;
+use program_replies::asked_text;
 use program_seats::Seats;
 use program_start::{
     FileReader, ProgramFault, Started, load_config, print, push_explanation, tell_explanation,
@@ -27,20 +28,35 @@ use std::sync::Wait;
 use std::thread::Threads;
 use std::time::Clock;
 
+/// Where a server's commands come from and its replies go without a control socket.
+#[derive(Drop)]
+pub struct Streams<I: Drop, W: Drop> {
+    pub reader: I,
+    pub writer: W,
+}
+
 /// Runs the server by its command line, whose first word is the program's own name, until `quit` or the end of the commands
-/// that `reader` gives. The answers go to `writer`, and why it ended too early to `errors`. The result is the exit status: 0,
-/// or 1 where it ended too early. Where the output takes no more, it ends once the reader has given one more line or its end.
-/// With a control socket clients command it, and neither `reader` nor `writer` is used. Files that are to be sent are read by
-/// `files`, beside the main thread. Where a person reads `errors`, or `--explain` is given, a second
-/// line there explains the fault, as it does after a check of the configuration.
+/// that `streams.reader` gives. The replies go to `streams.writer`, and why it ended too early to `errors`. The result is the exit
+/// status: 0, or 1 where it ended too early. Where the output takes no more, it ends once the reader has given one more line or its
+/// end. With a control socket clients command it, and neither of the streams is used. Files that are to be sent are read by `files`,
+/// beside the main thread. Where a person reads `errors`, or `--explain` is given, a second line there explains the fault, as it does
+/// after a check of the configuration.
 pub fn serve<
     R: Threads + Wait + Net + Clock + Files + AllocGlobal + Copy + Drop + Send + Sync,
     F: FileReader + ServerFiles + Sync,
     I: Read + Send + Drop,
     W: Write + Drop,
     E: Write,
->(rt: R, files: &F, words: &[String], reader: I, writer: W, errors: &mut E, explains: bool) -> u8 {
+>(
+    rt: R,
+    files: &F,
+    words: &[String],
+    streams: Streams<I, W>,
+    errors: &mut E,
+    explains: bool,
+) -> u8 {
     let alloc: Global = rt.alloc();
+    let Streams { reader, writer } = streams;
     let checks = asks_for_check(words);
     let explains = explains || asks_to_explain(words);
     let ended = if checks {
@@ -88,11 +104,7 @@ fn check<R: Files, W: Write + Drop, E: Write>(
 
 // Prints the help or the version, where a line asks for it.
 fn tell_about<W: Write>(writer: &mut W, fault: WordsFault) -> Result<u8, ProgramFault> {
-    match fault {
-        WordsFault::Help => print(writer, server_help())?,
-        WordsFault::Version => print(writer, server_version())?,
-        _ => return Err(fault_of(fault)),
-    }
+    print(writer, asked_text(fault, server_help(), server_version())?)?;
     Ok(0)
 }
 
@@ -127,7 +139,7 @@ fn push_meaning<R: Net + Files>(
         return writeln!(text, "`cfdp_server --help` lists the options");
     }
     if let Ok(path) = check_words(alloc, line) {
-        return push_why(rt, alloc, text, line, (started_with(path), fault));
+        return push_why(rt, alloc, text, line, (Started::with_config(path), fault));
     }
     match server_words(alloc, line) {
         Ok(words) => match words.status_socket {
@@ -186,18 +198,6 @@ fn unknown_named(alloc: Global, line: &[String]) -> &'static str {
     }
 }
 
-// What a check speaks of.
-fn started_with(config: &str) -> Started<'_> {
-    Started {
-        config,
-        bind: "",
-        control: None,
-        numbers: None,
-        outbox: None,
-        source: None,
-    }
-}
-
 // What a server was started with.
 fn started_by<'a>(words: &ServerWords<'a>) -> Started<'a> {
     Started {
@@ -207,20 +207,6 @@ fn started_by<'a>(words: &ServerWords<'a>) -> Started<'a> {
         numbers: words.numbers,
         outbox: words.outbox,
         source: None,
-    }
-}
-
-/// Prints why the words of the command line can't be had; the result is the exit status.
-pub fn tell_words_fault<E: Write>(alloc: Global, errors: &mut E, fault: WordsFault) -> u8 {
-    tell_fault(alloc, errors, "cfdp_server", &fault_of(fault));
-    1
-}
-
-// The fault of a program whose words have one.
-fn fault_of(fault: WordsFault) -> ProgramFault {
-    match fault {
-        WordsFault::NoMemory => ProgramFault::NoMemory,
-        _ => ProgramFault::Usage,
     }
 }
 

@@ -16,7 +16,7 @@ use program_words::ServerWords;
 use script_io::in_blocks;
 use server_commands::{Server, counts_of};
 use server_lanes::{Begun, Readiness};
-use server_recording::{Book, FolderStoring, Recorder, ServerFiles, Watched};
+use server_recording::{Book, FolderStoring, Recorder, ServerFiles, Ties, Watched};
 use server_reports::{Audience, Reports};
 use shared_entity::Entity;
 use shared_lanes::Names;
@@ -52,7 +52,7 @@ pub(crate) struct Sockets<'x> {
     pub(crate) control: Option<Control<'x>>,
 }
 
-/// What a server is given: what it keeps over restarts, and where commands come from and answers go without a control
+/// What a server is given: what it keeps over restarts, and where commands come from and replies go without a control
 /// socket.
 #[derive(Drop)]
 pub(crate) struct Given<R: Files + AllocGlobal + Drop, I: Drop, W: Drop> {
@@ -87,16 +87,13 @@ pub(crate) fn serve_over<
     let depot = Depot::new(alloc, entity.config())?;
     let book = Book::new(alloc, words)?;
     let seats = sockets.control.map(|control| control.seats);
-    let recorder = Recorder::new(
-        rt,
-        alloc,
-        files,
-        words,
-        entity.config(),
-        &book,
-        &desk,
+    let ties = Ties {
+        config: entity.config(),
+        book: &book,
+        desk: &desk,
         seats,
-    )?;
+    };
+    let recorder = Recorder::new(rt, alloc, files, words, ties)?;
     let opened = Opened {
         rt,
         alloc,

@@ -15,7 +15,7 @@ use std::sync::Wait;
 use std::thread;
 use std::time::{Clock, Duration};
 
-// How many rounds of bundles, one of each user, are printed at once, and behind how many octets no round begins.
+// How many rounds of bundles, one of each user, are printed at once, and after how many octets no round begins.
 const ROUNDS: usize = 256;
 
 const PRINTED_OCTETS: usize = 65_536;
@@ -23,7 +23,7 @@ const PRINTED_OCTETS: usize = 65_536;
 // How often a server that quits takes what users received, at most.
 const LAST_RECEIPTS: usize = 64;
 
-/// A server with what answers are printed to.
+/// A server, and where its replies are printed.
 #[derive(Drop)]
 pub(crate) struct Serving<'a, N: Names, R: Files + AllocGlobal + Copy + Drop, W: Drop> {
     pub(crate) server: Server<'a, N, R>,
@@ -75,7 +75,7 @@ fn work<N: Names, R: Wait + Clock + Files + AllocGlobal + Copy + Drop, W: Write 
         if has_received {
             server.station.hear_of_room();
         }
-        let has_worked = server.turn(now)?;
+        let has_worked = server.turn(now);
         if !has_settled && !has_answered && !has_received && !has_worked {
             server.rest(now, waits);
         }
@@ -105,7 +105,7 @@ fn receive_last<N: Names, R: Wait + Clock + Files + AllocGlobal + Copy + Drop, W
     Ok(())
 }
 
-// Answers the next command, if there is one. Says whether there was one, and whether the server goes on.
+// Replies to the next command, if there is one. Says whether there was one, and whether the server goes on.
 fn answer_next<N: Names, R: Wait + Clock + Files + AllocGlobal + Copy + Drop, W: Write + Drop>(
     server: &mut Server<'_, N, R>,
     console: &mut Console<'_, W>,
@@ -139,7 +139,7 @@ fn answer_next<N: Names, R: Wait + Clock + Files + AllocGlobal + Copy + Drop, W:
     Ok((true, next))
 }
 
-// Adds the next piece of a recording that is to be printed, and answers whether one is. Where there is no memory for the piece, it is
+// Adds the next piece of a recording that is to be printed, and returns whether one is. If memory for the piece runs out, it is
 // printed later.
 fn prints_recording<N: Names, R: Wait + Clock + Files + AllocGlobal + Copy + Drop>(
     server: &mut Server<'_, N, R>,
@@ -154,7 +154,7 @@ fn prints_recording<N: Names, R: Wait + Clock + Files + AllocGlobal + Copy + Dro
     }
 }
 
-// Does what a line says, and reports it, if that is wanted. Where there is no memory for the answer, that is the answer.
+// Does what a line says, and reports it, if that is wanted. If memory for the reply runs out, the reply says so.
 fn obey<N: Names, R: Wait + Clock + Files + AllocGlobal + Copy + Drop>(
     server: &mut Server<'_, N, R>,
     said: Said,

@@ -1,4 +1,4 @@
-use crate::key::{EntityId, TxnKey};
+use crate::key::TxnKey;
 use crate::names::TimerKind;
 
 /// An operation on one timer of a transaction, issued by a step.
@@ -20,18 +20,4 @@ pub enum TimerOp {
         /// The number, in the lane's journal, of the event that disarms the timer.
         stamp: u32,
     },
-}
-
-// What a list has where it holds nothing.
-impl Default for TimerOp {
-    fn default() -> TimerOp {
-        TimerOp::Disarm {
-            key: TxnKey {
-                source: EntityId(0),
-                seq: 0,
-            },
-            kind: TimerKind::Ack,
-            stamp: 0,
-        }
-    }
 }

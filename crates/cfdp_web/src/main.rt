@@ -7,7 +7,7 @@ mod words;
 
 use crate::names::names_of;
 use crate::token::token_for;
-use crate::words::{HELP, USAGE_LINE, VERSION, Words, WordsFault, line_of, words_of};
+use crate::words::{HELP, USAGE_LINE, VERSION_LINE, Words, WordsFault, line_of, words_of};
 use std::hash::RandomState;
 use std::io;
 use std::io::Write;
@@ -104,7 +104,7 @@ fn say_instead<W: Write, E: Write>(fault: WordsFault, output: &mut W, errors: &m
             0
         }
         WordsFault::Version => {
-            let _said = output.write_all(VERSION.as_bytes());
+            let _said = output.write_all(VERSION_LINE.as_bytes());
             let _flushed = output.flush();
             0
         }

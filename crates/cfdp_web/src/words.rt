@@ -1,6 +1,7 @@
 //! The command line.
 use clap::error::ErrorKind;
 use clap::{Arg, ArgAction, ArgMatches, Command, Error};
+use release::{VERSION, versioned};
 use std::alloc::{AllocError, Global};
 use std::env::Env;
 use std::{env, io};
@@ -55,7 +56,7 @@ pub(crate) const USAGE_LINE: &str =
     "cfdp_web: usage: cfdp_web --control PATH [--listen ADDR] [--name HOST:PORT] [--commands] [--token-file FILE]\n";
 
 /// What `--version` prints.
-pub(crate) const VERSION: &str = "cfdp_web 0.1\n";
+pub(crate) const VERSION_LINE: &str = versioned!("cfdp_web ", "\n");
 
 /// The words of the command line; the first is the program's own name.
 pub(crate) fn line_of<R: Env + AllocGlobal>(rt: &R) -> Result<Vec<String>, WordsFault> {
@@ -88,7 +89,7 @@ pub(crate) fn words_of<'a>(alloc: Global, line: &'a [String]) -> Result<Words<'a
 // The options of the program.
 fn command<'a>(alloc: Global) -> Result<Command<'a>, AllocError> {
     let command = Command::new(alloc, "cfdp_web")
-        .version("0.1")
+        .version(VERSION)
         .arg(valued(alloc, "control").required(true))?
         .arg(valued(alloc, "listen"))?
         .arg(valued(alloc, "name"))?

@@ -6,6 +6,7 @@ use crate::ends::{End, end_in};
 use crate::fields::{number_in, text_in, value_of};
 use crate::sums::is_lost;
 use json::{Scratch, Value};
+use station_names::{kind, member, word};
 use std::alloc::{AllocError, Global};
 
 /// What a line of a status is about.
@@ -54,10 +55,10 @@ fn is_shown_line(
 }
 
 fn topic_of(value: &Value<'_>) -> Topic {
-    match (text_in(value, "kind"), text_in(value, "state")) {
-        (Some("entity"), _) => Topic::Server,
-        (Some("transaction"), Some("ended")) => topic_of_end(end_in(value)),
-        (Some("transaction"), _) => Topic::Going,
+    match (text_in(value, member::KIND), text_in(value, member::STATE)) {
+        (Some(kind::ENTITY), _) => Topic::Server,
+        (Some(kind::TRANSACTION), Some(word::ENDED)) => topic_of_end(end_in(value)),
+        (Some(kind::TRANSACTION), _) => Topic::Going,
         _ => Topic::Other,
     }
 }
@@ -72,11 +73,11 @@ fn topic_of_end(end: Option<End>) -> Topic {
 
 // The entity that a line is about.
 fn peer_of(value: &Value<'_>) -> Option<u64> {
-    match text_in(value, "kind") {
-        Some("transaction") => number_in(value, "peer"),
-        Some("queued") => number_in(value, "destination"),
-        Some("remote") => number_in(value, "id"),
-        Some("note") => number_in(value, "remote"),
+    match text_in(value, member::KIND) {
+        Some(kind::TRANSACTION) => number_in(value, member::PEER),
+        Some(kind::QUEUED) => number_in(value, member::DESTINATION),
+        Some(kind::REMOTE) => number_in(value, member::ID),
+        Some(kind::NOTE) => number_in(value, member::REMOTE),
         _ => None,
     }
 }
@@ -140,9 +141,9 @@ fn live_in(alloc: Global, value: &Value<'_>) -> Result<Option<Live>, AllocError>
         return Ok(None);
     }
     let (Some(user), Some(source), Some(seq)) = (
-        text_in(value, "user"),
-        number_in(value, "source"),
-        number_in(value, "seq"),
+        text_in(value, member::USER),
+        number_in(value, member::SOURCE),
+        number_in(value, member::SEQ),
     ) else {
         return Ok(None);
     };
@@ -150,6 +151,6 @@ fn live_in(alloc: Global, value: &Value<'_>) -> Result<Option<Live>, AllocError>
         user: String::from_str(alloc, user)?,
         source,
         seq,
-        peer: number_in(value, "peer"),
+        peer: number_in(value, member::PEER),
     }))
 }

@@ -5,6 +5,7 @@ use crate::parts::Part::{
     Age, Bar, Condition, Direction, End, Held, Name, Number, Octets, Percent, Rate, SomeNumber,
     SomeNumbers, SomeOctets, SomeText, Text, Words,
 };
+use station_names::{kind, member};
 
 /// A column of a table: its head, and the parts of its cells.
 #[derive(Clone, Copy)]
@@ -69,100 +70,111 @@ pub(crate) struct Layout {
 /// The tables, in the order in which they are shown.
 pub(crate) const LAYOUTS: [Layout; 12] = [
     Layout {
-        rows: Rows::Of("user"),
+        rows: Rows::Of(kind::USER),
         title: "Users",
         shade: Shade::Plain,
         columns: &[
-            Right("waiting", &[Number("waiting", "-")]),
-            Right("of", &[Number("capacity", "-")]),
-            Left("user", &[Text("name", "?")]),
+            Right("waiting", &[Number(member::WAITING, "-")]),
+            Right("of", &[Number(member::CAPACITY, "-")]),
+            Left("user", &[Text(member::NAME, "?")]),
         ],
     },
     Layout {
-        rows: Rows::Of("transaction"),
+        rows: Rows::Of(kind::TRANSACTION),
         title: "Active",
         shade: Shade::ByNotice,
         columns: &[
             Left(
                 "transaction",
-                &[Number("source", "?"), Words("."), Number("seq", "?")],
+                &[
+                    Number(member::SOURCE, "?"),
+                    Words("."),
+                    Number(member::SEQ, "?"),
+                ],
             ),
-            Left("user", &[Text("user", "?")]),
-            Left("peer", &[Direction, Number("peer", "?")]),
-            Left("state", &[Text("state", "?")]),
+            Left("user", &[Text(member::USER, "?")]),
+            Left("peer", &[Direction, Number(member::PEER, "?")]),
+            Left("state", &[Text(member::STATE, "?")]),
             Left("progress", &[Bar]),
             Right("", &[Percent]),
             Right(
                 "octets",
-                &[Octets("octets", "0 B"), SomeOctets(", lacks ", "missing")],
+                &[
+                    Octets(member::OCTETS, "0 B"),
+                    SomeOctets(", lacks ", member::MISSING),
+                ],
             ),
             Right("rate", &[Rate]),
             Right("last event", &[Age]),
             Left(
                 "file",
                 &[
-                    Name("file", "file_hex"),
+                    Name(member::FILE, member::FILE_HEX),
                     Words(" to "),
-                    Name("to", "to_hex"),
-                    SomeText(" (", "notice", ")"),
+                    Name(member::TO, member::TO_HEX),
+                    SomeText(" (", member::NOTICE, ")"),
                 ],
             ),
         ],
     },
     Layout {
-        rows: Rows::Of("queued"),
+        rows: Rows::Of(kind::QUEUED),
         title: "Outbox",
         shade: Shade::Plain,
         columns: &[
-            Right("number", &[Number("number", "-")]),
-            Left("user", &[Text("user", "?")]),
-            Right("to", &[Number("destination", "-")]),
-            Right("class", &[Number("class", "-")]),
-            Left("since", &[Text("since", "?")]),
+            Right("number", &[Number(member::NUMBER, "-")]),
+            Left("user", &[Text(member::USER, "?")]),
+            Right("to", &[Number(member::DESTINATION, "-")]),
+            Right("class", &[Number(member::CLASS, "-")]),
+            Left("since", &[Text(member::SINCE, "?")]),
             Left(
                 "file",
                 &[
-                    Name("file", "file_hex"),
+                    Name(member::FILE, member::FILE_HEX),
                     Words(" to "),
-                    Name("to", "to_hex"),
+                    Name(member::TO, member::TO_HEX),
                 ],
             ),
         ],
     },
     Layout {
-        rows: Rows::Of("reading"),
+        rows: Rows::Of(kind::READING),
         title: "Reading",
         shade: Shade::Plain,
         columns: &[
-            Left("since", &[Text("since", "?")]),
-            Left("file", &[Name("file", "file_hex")]),
+            Left("since", &[Text(member::SINCE, "?")]),
+            Left("file", &[Name(member::FILE, member::FILE_HEX)]),
         ],
     },
     Layout {
-        rows: Rows::Of("storing"),
+        rows: Rows::Of(kind::STORING),
         title: "Storing",
         shade: Shade::Plain,
         columns: &[
             Left(
                 "transaction",
-                &[Number("source", "?"), Words("."), Number("seq", "?")],
+                &[
+                    Number(member::SOURCE, "?"),
+                    Words("."),
+                    Number(member::SEQ, "?"),
+                ],
             ),
-            Left("since", &[Text("since", "?")]),
-            Left("hindered by", &[Text("why", "-")]),
+            Left("since", &[Text(member::SINCE, "?")]),
+            Left("hindered by", &[Text(member::WHY, "-")]),
         ],
     },
     Layout {
-        rows: Rows::Of("parked"),
+        rows: Rows::Of(kind::PARKED),
         title: "Parked",
         shade: Shade::Plain,
         columns: &[
-            Left("user", &[Text("user", "?")]),
-            Right("lane", &[Number("lane", "-")]),
-            Right("datagrams", &[Number("datagrams", "-")]),
-            Right("transactions", &[Number("transactions", "-")]),
-            Right("octets", &[Octets("octets", "-")]),
-            Right("dropped", &[Number("dropped", "-")]),
-            Left("since", &[Text("since", "-")]),
+            Left("user", &[Text(member::USER, "?")]),
+            Right("lane", &[Number(member::LANE, "-")]),
+            Right("datagrams", &[Number(member::DATAGRAMS, "-")]),
+            Right("transactions", &[Number(member::TRANSACTIONS, "-")]),
+            Right("octets", &[Octets(member::OCTETS, "-")]),
+            Right("dropped", &[Number(member::DROPPED, "-")]),
+            Left("since", &[Text(member::SINCE, "-")]),
         ],
     },
     Layout {
@@ -172,98 +184,106 @@ pub(crate) const LAYOUTS: [Layout; 12] = [
         columns: &[
             Left(
                 "transaction",
-                &[Number("source", "?"), Words("."), Number("seq", "?")],
+                &[
+                    Number(member::SOURCE, "?"),
+                    Words("."),
+                    Number(member::SEQ, "?"),
+                ],
             ),
-            Left("user", &[Text("user", "?")]),
-            Left("peer", &[Direction, Number("peer", "?")]),
-            Right("size", &[Octets("size", "-")]),
+            Left("user", &[Text(member::USER, "?")]),
+            Left("peer", &[Direction, Number(member::PEER, "?")]),
+            Right("size", &[Octets(member::SIZE, "-")]),
             Left("end", &[End]),
             Left(
                 "file",
                 &[
-                    Name("file", "file_hex"),
+                    Name(member::FILE, member::FILE_HEX),
                     Words(" to "),
-                    Name("to", "to_hex"),
-                    SomeText(" (", "notice", ")"),
+                    Name(member::TO, member::TO_HEX),
+                    SomeText(" (", member::NOTICE, ")"),
                 ],
             ),
         ],
     },
     Layout {
-        rows: Rows::Of("remote"),
+        rows: Rows::Of(kind::REMOTE),
         title: "Remotes",
         shade: Shade::ByHold,
         columns: &[
-            Right("entity", &[Number("id", "-")]),
-            Right("in", &[Number("datagrams_in", "-")]),
-            Right("octets in", &[Octets("octets_in", "-")]),
-            Right("out", &[Number("datagrams_out", "-")]),
-            Right("octets out", &[Octets("octets_out", "-")]),
-            Right("failed", &[Number("failed_sends", "-")]),
+            Right("entity", &[Number(member::ID, "-")]),
+            Right("in", &[Number(member::DATAGRAMS_IN, "-")]),
+            Right("octets in", &[Octets(member::OCTETS_IN, "-")]),
+            Right("out", &[Number(member::DATAGRAMS_OUT, "-")]),
+            Right("octets out", &[Octets(member::OCTETS_OUT, "-")]),
+            Right("failed", &[Number(member::FAILED_SENDS, "-")]),
             Left(
                 "link",
                 &[
-                    Text("address", "no address"),
+                    Text(member::ADDRESS, "no address"),
                     Held,
-                    SomeText(", heard ", "heard", ""),
+                    SomeText(", heard ", member::HEARD, ""),
                 ],
             ),
         ],
     },
     Layout {
-        rows: Rows::Of("refusal"),
+        rows: Rows::Of(kind::REFUSAL),
         title: "Refusals",
         shade: Shade::Plain,
         columns: &[
-            Right("count", &[Number("count", "-")]),
+            Right("count", &[Number(member::COUNT, "-")]),
             Left(
                 "refusal",
                 &[
-                    Number("number", "?"),
+                    Number(member::NUMBER, "?"),
                     Words(" "),
-                    Text("name", "?"),
-                    SomeNumber(" ", "fault", ""),
-                    SomeText(", ", "pdu", ""),
-                    SomeNumber(" of ", "source", ""),
-                    SomeNumber(".", "seq", ""),
+                    Text(member::NAME, "?"),
+                    SomeNumber(" ", member::FAULT, ""),
+                    SomeText(", ", member::PDU, ""),
+                    SomeNumber(" of ", member::SOURCE, ""),
+                    SomeNumber(".", member::SEQ, ""),
                 ],
             ),
-            Left("last", &[Text("last", "-")]),
-            Left("from", &[Text("from", "-")]),
+            Left("last", &[Text(member::LAST, "-")]),
+            Left("from", &[Text(member::FROM, "-")]),
         ],
     },
     Layout {
-        rows: Rows::Of("ended"),
+        rows: Rows::Of(kind::ENDED),
         title: "Ends",
         shade: Shade::Plain,
         columns: &[
-            Right("count", &[Number("count", "-")]),
-            Left("role", &[Text("role", "?")]),
-            Right("class", &[Number("class", "-")]),
+            Right("count", &[Number(member::COUNT, "-")]),
+            Left("role", &[Text(member::ROLE, "?")]),
+            Right("class", &[Number(member::CLASS, "-")]),
             Left("condition", &[Condition]),
         ],
     },
     Layout {
-        rows: Rows::Of("delivered"),
+        rows: Rows::Of(kind::DELIVERED),
         title: "Delivered",
         shade: Shade::Plain,
         columns: &[
-            Right("files", &[Number("files", "-")]),
-            Right("octets", &[Octets("octets", "-")]),
-            Left("role", &[Text("role", "?")]),
+            Right("files", &[Number(member::FILES, "-")]),
+            Right("octets", &[Octets(member::OCTETS, "-")]),
+            Left("role", &[Text(member::ROLE, "?")]),
         ],
     },
     Layout {
-        rows: Rows::Of("store"),
+        rows: Rows::Of(kind::STORE),
         title: "Last store",
         shade: Shade::Plain,
         columns: &[
             Left(
                 "transaction",
-                &[Number("source", "?"), Words("."), Number("seq", "?")],
+                &[
+                    Number(member::SOURCE, "?"),
+                    Words("."),
+                    Number(member::SEQ, "?"),
+                ],
             ),
-            Right("microseconds", &[Number("microseconds", "-")]),
-            Left("at", &[Text("at", "?")]),
+            Right("microseconds", &[Number(member::MICROSECONDS, "-")]),
+            Left("at", &[Text(member::AT, "?")]),
         ],
     },
 ];
@@ -271,36 +291,36 @@ pub(crate) const LAYOUTS: [Layout; 12] = [
 /// The line of the entity, above the tables.
 pub(crate) const ENTITY: [Part; 8] = [
     Words("Entity "),
-    Number("id", "?"),
+    Number(member::ID, "?"),
     Words(", cfdp_server "),
-    Text("version", "?"),
+    Text(member::VERSION, "?"),
     Words(", since "),
-    Text("started", "?"),
+    Text(member::STARTED, "?"),
     Words(", now "),
-    Text("now", "?"),
+    Text(member::NOW, "?"),
 ];
 
 /// The line of its counter of ended reads, if workers stopped reading.
 pub(crate) const ENDED_READS: [Part; 2] = [
     Words("Workers that stopped reading because their socket failed: "),
-    Number("ended_reads", "?"),
+    Number(member::ENDED_READS, "?"),
 ];
 
 /// The line of a log that fails.
 pub(crate) const FAILING_LOG: [Part; 2] = [
     Words("The log can't be written; events lost: "),
-    Number("lost", "?"),
+    Number(member::LOST, "?"),
 ];
 
 /// The line of a note on a remote entity's lanes.
 pub(crate) const NOTE: [Part; 9] = [
     Words("Note: "),
-    Number("sending_lanes", "?"),
+    Number(member::SENDING_LANES, "?"),
     Words(" sending lanes don't divide the "),
-    Number("receiving_lanes", "?"),
+    Number(member::RECEIVING_LANES, "?"),
     Words(" receiving lanes of entity "),
-    Number("remote", "?"),
+    Number(member::REMOTE, "?"),
     Words(", so files wait for each other"),
-    SomeNumbers("; ", "better", " would not"),
+    SomeNumbers("; ", member::BETTER, " would not"),
     Words("."),
 ];

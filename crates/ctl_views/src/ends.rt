@@ -5,6 +5,7 @@ use crate::conditions::condition_words;
 use crate::fields::{number_in, text_in};
 use crate::page::Tone;
 use json::Value;
+use station_names::member;
 use std::alloc::AllocError;
 
 /// How a file ended.
@@ -21,8 +22,11 @@ pub enum End {
 /// The end that an event or a line of a status reports; `None` if it has no condition, as the line of a transaction whose
 /// last indication the server hasn't taken yet.
 pub(crate) fn end_in(value: &Value<'_>) -> Option<End> {
-    let condition = number_in(value, "condition")?;
-    match (text_in(value, "delivery"), text_in(value, "status")) {
+    let condition = number_in(value, member::CONDITION)?;
+    match (
+        text_in(value, member::DELIVERY),
+        text_in(value, member::STATUS),
+    ) {
         (Some(delivery), Some(status)) => Some(end_of(condition, delivery, status)),
         _ => Some(End::Lost),
     }
@@ -54,12 +58,12 @@ pub(crate) fn end_tone(value: &Value<'_>) -> Tone {
 /// Adds how a transaction ended: its condition if that is an error, its delivery, and what became of the file. If there is
 /// no condition, it is still ending.
 pub(crate) fn push_end(text: &mut String, value: &Value<'_>) -> Result<(), AllocError> {
-    let Some(code) = number_in(value, "condition") else {
+    let Some(code) = number_in(value, member::CONDITION) else {
         return text.push_str("ending");
     };
     let words = condition_words(code);
-    let status = text_in(value, "status").unwrap_or("?");
-    match text_in(value, "delivery") {
+    let status = text_in(value, member::STATUS).unwrap_or("?");
+    match text_in(value, member::DELIVERY) {
         None => write!(text, "abandoned, {words}"),
         Some(delivery) if code == 0 => write!(text, "{delivery}, {status}"),
         Some(delivery) => write!(text, "{words}, {delivery}, {status}"),

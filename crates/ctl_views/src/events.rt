@@ -4,6 +4,7 @@ use crate::fields::{number_in, text_in, value_of};
 use crate::page::Tone;
 use crate::telling::{push_head, push_words, tone_of};
 use json::{Scratch, Value};
+use station_names::{kind, member};
 use std::alloc::{AllocError, Global};
 
 /// What an event reports of a file of the outbox.
@@ -76,7 +77,7 @@ fn event_of(alloc: Global, value: &Value<'_>) -> Result<Event, AllocError> {
 }
 
 fn user_of(alloc: Global, value: &Value<'_>) -> Result<Option<String>, AllocError> {
-    match text_in(value, "user") {
+    match text_in(value, member::USER) {
         Some(name) => Ok(Some(String::from_str(alloc, name)?)),
         None => Ok(None),
     }
@@ -84,29 +85,31 @@ fn user_of(alloc: Global, value: &Value<'_>) -> Result<Option<String>, AllocErro
 
 /// The transaction that an event is about.
 pub(crate) fn transaction_in(value: &Value<'_>) -> Option<Transaction> {
-    let source = number_in(value, "source")?;
-    let seq = number_in(value, "seq")?;
+    let source = number_in(value, member::SOURCE)?;
+    let seq = number_in(value, member::SEQ)?;
     Some(Transaction { source, seq })
 }
 
 fn step_of(value: &Value<'_>) -> Step {
-    match text_in(value, "kind") {
-        Some("put") => started_in(value),
-        Some("unsent") => unsent_in(value),
-        Some("indication") if is_end(value) => { Step::Ended(end_in(value).unwrap_or(End::Lost)) }
+    match text_in(value, member::KIND) {
+        Some(kind::PUT) => started_in(value),
+        Some(kind::UNSENT) => unsent_in(value),
+        Some(kind::INDICATION) if is_end(value) => {
+            Step::Ended(end_in(value).unwrap_or(End::Lost))
+        }
         _ => Step::Other,
     }
 }
 
 fn started_in(value: &Value<'_>) -> Step {
-    match number_in(value, "queued") {
+    match number_in(value, member::QUEUED) {
         Some(number) => Step::Started(number),
         None => Step::Other,
     }
 }
 
 fn unsent_in(value: &Value<'_>) -> Step {
-    match number_in(value, "queued") {
+    match number_in(value, member::QUEUED) {
         Some(number) => Step::Unsent(number),
         None => Step::Other,
     }
@@ -115,7 +118,7 @@ fn unsent_in(value: &Value<'_>) -> Step {
 // Whether an indication is the last of its transaction.
 fn is_end(value: &Value<'_>) -> bool {
     matches!(
-        text_in(value, "name"),
+        text_in(value, member::NAME),
         Some("Transaction-Finished" | "Abandoned")
     )
 }

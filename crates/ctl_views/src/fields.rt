@@ -3,6 +3,7 @@ use crate::amounts::percent_of;
 use crate::moments::milliseconds_of;
 use crate::shown::hex_digit;
 use json::{Error, Scratch, Value};
+use station_names::member;
 use std::alloc::{AllocError, Global};
 
 /// Parses a line; `None` where it is not JSON.
@@ -55,8 +56,8 @@ pub(crate) fn moment_in(value: &Value<'_>, name: &str) -> Option<u64> {
 
 /// How much of a file is there, in whole percent; `None` if its size isn't known.
 pub(crate) fn share_in(value: &Value<'_>) -> Option<u64> {
-    let octets = number_in(value, "octets").unwrap_or(0);
-    match number_in(value, "size") {
+    let octets = number_in(value, member::OCTETS).unwrap_or(0);
+    match number_in(value, member::SIZE) {
         Some(size) => Some(percent_of(octets, size)),
         None => None,
     }

@@ -3,6 +3,7 @@ use crate::ends::{End, end_in, push_end};
 use crate::events::{Transaction, transaction_in};
 use crate::fields::{moment_in, number_in, push_name, text_in, value_of};
 use json::{Scratch, Value};
+use station_names::{kind, member};
 use std::alloc::{AllocError, Global};
 use std::collections::BTreeMap;
 
@@ -113,20 +114,20 @@ impl History {
     }
 
     fn take_event(&mut self, value: &Value<'_>) -> Result<Option<Ended>, AllocError> {
-        match (text_in(value, "kind"), text_in(value, "name")) {
-            (Some("start"), _) => {
-                self.start(number_in(value, "id"));
+        match (text_in(value, member::KIND), text_in(value, member::NAME)) {
+            (Some(kind::START), _) => {
+                self.start(number_in(value, member::ID));
                 Ok(None)
             }
-            (Some("put"), _) => {
-                self.begin(value, Way::Sent, number_in(value, "peer"))?;
+            (Some(kind::PUT), _) => {
+                self.begin(value, Way::Sent, number_in(value, member::PEER))?;
                 Ok(None)
             }
-            (Some("indication"), Some("Metadata-Recv")) => {
-                self.begin(value, Way::Received, number_in(value, "source"))?;
+            (Some(kind::INDICATION), Some("Metadata-Recv")) => {
+                self.begin(value, Way::Received, number_in(value, member::SOURCE))?;
                 Ok(None)
             }
-            (Some("indication"), Some("Transaction-Finished" | "Abandoned")) => self.end(value),
+            (Some(kind::INDICATION), Some("Transaction-Finished" | "Abandoned")) => self.end(value),
             _ => Ok(None),
         }
     }
@@ -145,12 +146,12 @@ impl History {
             return Ok(());
         };
         let begun = Begun {
-            at: moment_in(value, "at"),
+            at: moment_in(value, member::AT),
             way,
             peer,
-            file: name_in(self.alloc, value, "file", "file_hex")?,
-            to: name_in(self.alloc, value, "to", "to_hex")?,
-            size: number_in(value, "size"),
+            file: name_in(self.alloc, value, member::FILE, member::FILE_HEX)?,
+            to: name_in(self.alloc, value, member::TO, member::TO_HEX)?,
+            size: number_in(value, member::SIZE),
         };
         let _again = self.ended.remove(&(source, seq));
         match self.open.insert((source, seq), begun) {
@@ -203,11 +204,11 @@ fn ended_of(
     seq: u64,
     begun: Begun,
 ) -> Result<Ended, AllocError> {
-    let at = String::from_str(alloc, text_in(value, "at").unwrap_or("?"))?;
-    let user = String::from_str(alloc, text_in(value, "user").unwrap_or("?"))?;
+    let at = String::from_str(alloc, text_in(value, member::AT).unwrap_or("?"))?;
+    let user = String::from_str(alloc, text_in(value, member::USER).unwrap_or("?"))?;
     let mut how = String::new(alloc);
     push_end(&mut how, value)?;
-    let moment = moment_in(value, "at");
+    let moment = moment_in(value, member::AT);
     Ok(Ended {
         at,
         moment,

@@ -1,6 +1,7 @@
 //! Reads single lines of a status.
 use crate::fields::{number_in, text_in, value_of};
 use json::{Scratch, Value};
+use station_names::{kind, member, word};
 use std::alloc::{AllocError, Global};
 
 /// What a line of a status says to a client that sends files.
@@ -35,36 +36,36 @@ pub fn read_status_line(alloc: Global, line: &str) -> Result<StatusLine, AllocEr
 }
 
 fn line_of(alloc: Global, value: &Value<'_>) -> Result<StatusLine, AllocError> {
-    match text_in(value, "kind") {
-        Some("user") => user_in(alloc, value),
-        Some("remote") => Ok(remote_in(value)),
-        Some("transaction") => Ok(sending_in(value).unwrap_or(StatusLine::Other)),
+    match text_in(value, member::KIND) {
+        Some(kind::USER) => user_in(alloc, value),
+        Some(kind::REMOTE) => Ok(remote_in(value)),
+        Some(kind::TRANSACTION) => Ok(sending_in(value).unwrap_or(StatusLine::Other)),
         _ => Ok(StatusLine::Other),
     }
 }
 
 fn user_in(alloc: Global, value: &Value<'_>) -> Result<StatusLine, AllocError> {
-    match text_in(value, "name") {
+    match text_in(value, member::NAME) {
         Some(name) => Ok(StatusLine::User(String::from_str(alloc, name)?)),
         None => Ok(StatusLine::Other),
     }
 }
 
 fn remote_in(value: &Value<'_>) -> StatusLine {
-    match number_in(value, "id") {
+    match number_in(value, member::ID) {
         Some(id) => StatusLine::Remote(id),
         None => StatusLine::Other,
     }
 }
 
 fn sending_in(value: &Value<'_>) -> Option<StatusLine> {
-    if text_in(value, "role") != Some("sender") {
+    if text_in(value, member::ROLE) != Some(word::SENDER) {
         return None;
     }
-    let source = number_in(value, "source")?;
-    let seq = number_in(value, "seq")?;
-    let octets = number_in(value, "octets")?;
-    let size = number_in(value, "size")?;
+    let source = number_in(value, member::SOURCE)?;
+    let seq = number_in(value, member::SEQ)?;
+    let octets = number_in(value, member::OCTETS)?;
+    let size = number_in(value, member::SIZE)?;
     Some(StatusLine::Sending(Progress {
         source,
         seq,

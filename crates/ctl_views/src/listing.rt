@@ -5,6 +5,7 @@ use crate::history::{Ended, Way};
 use crate::page::{Page, Tone};
 use crate::sums::Sum;
 use json::Writer;
+use station_names::member;
 use std::alloc::{AllocError, Global};
 
 // How many columns the parts of a line have at least.
@@ -148,15 +149,15 @@ fn rate_of(ended: &Ended) -> Option<u64> {
 pub fn ended_json(alloc: Global, ended: &Ended) -> Result<Vec<u8>, AllocError> {
     let mut writer = Writer::new(Vec::new(alloc));
     writer.begin_object()?;
-    push_text(&mut writer, "at", ended.at.as_str())?;
+    push_text(&mut writer, member::AT, ended.at.as_str())?;
     push_text(&mut writer, "way", way_word(ended.way))?;
-    push_some(&mut writer, "peer", ended.peer)?;
-    push_text(&mut writer, "user", ended.user.as_str())?;
-    push_some(&mut writer, "source", Some(ended.source))?;
-    push_some(&mut writer, "seq", Some(ended.seq))?;
-    push_text(&mut writer, "file", ended.file.as_str())?;
-    push_text(&mut writer, "to", ended.to.as_str())?;
-    push_some(&mut writer, "size", ended.size)?;
+    push_some(&mut writer, member::PEER, ended.peer)?;
+    push_text(&mut writer, member::USER, ended.user.as_str())?;
+    push_some(&mut writer, member::SOURCE, Some(ended.source))?;
+    push_some(&mut writer, member::SEQ, Some(ended.seq))?;
+    push_text(&mut writer, member::FILE, ended.file.as_str())?;
+    push_text(&mut writer, member::TO, ended.to.as_str())?;
+    push_some(&mut writer, member::SIZE, ended.size)?;
     push_some(&mut writer, "milliseconds", ended.took)?;
     push_some(&mut writer, "rate", rate_of(ended))?;
     push_text(&mut writer, "end", end_word(ended.end))?;

@@ -4,6 +4,7 @@ use crate::conditions::condition_words;
 use crate::ends::push_end;
 use crate::fields::{is_set, items_in, moment_in, number_in, push_name, share_in, text_in};
 use json::Value;
+use station_names::{member, word};
 use std::alloc::{AllocError, Global};
 
 /// A part of a text, in most cases with the name of the member that it shows. A part that begins with `Some` is left
@@ -100,14 +101,14 @@ fn push_part(
             back,
         ),
         Part::SomeOctets(front, name) => push_some_octets(text, front, number_in(value, name)),
-        Part::Condition => push_condition(text, number_in(value, "condition")),
+        Part::Condition => push_condition(text, number_in(value, member::CONDITION)),
         Part::End => push_end(text, value),
-        Part::Direction => text.push_str(direction_of(text_in(value, "role"))),
+        Part::Direction => text.push_str(direction_of(text_in(value, member::ROLE))),
         Part::Held => push_held(text, value),
         Part::Bar => push_share_bar(text, share_in(value)),
         Part::Percent => push_share(text, share_in(value)),
         Part::Rate => push_rate(text, look.rate),
-        Part::Age => push_age_since(text, look.now, moment_in(value, "last")),
+        Part::Age => push_age_since(text, look.now, moment_in(value, member::LAST)),
     }
 }
 
@@ -218,18 +219,18 @@ fn push_condition(text: &mut String, code: Option<u64>) -> Result<(), AllocError
 
 fn direction_of(role: Option<&str>) -> &'static str {
     match role {
-        Some("sender") => "to ",
-        Some("receiver") => "from ",
+        Some(word::SENDER) => "to ",
+        Some(word::RECEIVER) => "from ",
         _ => "",
     }
 }
 
 fn push_held(text: &mut String, value: &Value<'_>) -> Result<(), AllocError> {
-    if !is_set(value, "held") {
+    if !is_set(value, member::HELD) {
         return Ok(());
     }
     text.push_str(", held since ")?;
-    text.push_str(text_in(value, "held_since").unwrap_or("?"))
+    text.push_str(text_in(value, member::HELD_SINCE).unwrap_or("?"))
 }
 
 fn push_share_bar(text: &mut String, percent: Option<u64>) -> Result<(), AllocError> {

@@ -8,6 +8,7 @@ use crate::page::Tone;
 use crate::parts::{Look, NO_LOOK, Part, push_parts};
 use crate::seen::{Seen, look_at};
 use json::Value;
+use station_names::{kind, member, word};
 use std::alloc::{AllocError, Global};
 
 /// A row of a table.
@@ -61,11 +62,11 @@ pub(crate) fn push_record(
     seen: &Seen,
     next: &mut Seen,
 ) -> Result<(), AllocError> {
-    match text_in(value, "kind") {
-        Some("entity") => push_entity(alloc, tables, value),
-        Some("log") => push_log(alloc, tables, value),
-        Some("note") => push_head(alloc, tables, value, NOTE.as_slice()),
-        Some("transaction") => push_transaction(alloc, tables, value, seen, next),
+    match text_in(value, member::KIND) {
+        Some(kind::ENTITY) => push_entity(alloc, tables, value),
+        Some(kind::LOG) => push_log(alloc, tables, value),
+        Some(kind::NOTE) => push_head(alloc, tables, value, NOTE.as_slice()),
+        Some(kind::TRANSACTION) => push_transaction(alloc, tables, value, seen, next),
         Some(kind) => push_row(alloc, tables, Rows::Of(kind), value, NO_LOOK),
         None => Ok(()),
     }
@@ -83,8 +84,8 @@ fn push_ended_reads(
     tables: &mut Tables,
     value: &Value<'_>,
 ) -> Result<(), AllocError> {
-    match value.get("counters") {
-        Some(counters) if number_in(counters, "ended_reads") > Some(0) => {
+    match value.get(member::COUNTERS) {
+        Some(counters) if number_in(counters, member::ENDED_READS) > Some(0) => {
             push_head(alloc, tables, counters, ENDED_READS.as_slice())
         }
         _ => Ok(()),
@@ -92,7 +93,7 @@ fn push_ended_reads(
 }
 
 fn push_log(alloc: Global, tables: &mut Tables, value: &Value<'_>) -> Result<(), AllocError> {
-    if is_set(value, "failing") {
+    if is_set(value, member::FAILING) {
         push_head(alloc, tables, value, FAILING_LOG.as_slice())
     } else {
         Ok(())
@@ -107,11 +108,11 @@ fn push_transaction(
     seen: &Seen,
     next: &mut Seen,
 ) -> Result<(), AllocError> {
-    if text_in(value, "state") == Some("ended") {
+    if text_in(value, member::STATE) == Some(word::ENDED) {
         return push_row(alloc, tables, Rows::Ended, value, NO_LOOK);
     }
     let look = look_at(value, seen, next)?;
-    push_row(alloc, tables, Rows::Of("transaction"), value, look)
+    push_row(alloc, tables, Rows::Of(kind::TRANSACTION), value, look)
 }
 
 // Adds a line above the tables.
@@ -161,7 +162,7 @@ fn push_row_to(
 ) -> Result<(), AllocError> {
     let row = Row {
         tone: tone_by(table.layout.shade, value),
-        last: moment_in(value, "last").unwrap_or(0),
+        last: moment_in(value, member::LAST).unwrap_or(0),
         cells: cells_of(alloc, value, table.layout.columns, look)?,
     };
     match table.rows.push(row) {
@@ -173,8 +174,8 @@ fn push_row_to(
 fn tone_by(shade: Shade, value: &Value<'_>) -> Tone {
     match shade {
         Shade::ByEnd => end_tone(value),
-        Shade::ByNotice if text_in(value, "notice").is_some() => Tone::Bad,
-        Shade::ByHold if is_set(value, "held") => Tone::Faint,
+        Shade::ByNotice if text_in(value, member::NOTICE).is_some() => Tone::Bad,
+        Shade::ByHold if is_set(value, member::HELD) => Tone::Faint,
         Shade::Plain | Shade::ByNotice | Shade::ByHold => Tone::Plain,
     }
 }

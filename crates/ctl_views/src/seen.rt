@@ -2,6 +2,7 @@
 use crate::fields::number_in;
 use crate::parts::Look;
 use json::Value;
+use station_names::member;
 use std::alloc::{AllocError, Global};
 use std::collections::BTreeMap;
 
@@ -39,7 +40,7 @@ impl Seen {
 
 /// Looks at a transaction that goes on; what is seen of it is noted for the next look.
 pub(crate) fn look_at(value: &Value<'_>, seen: &Seen, next: &mut Seen) -> Result<Look, AllocError> {
-    let octets = number_in(value, "octets").unwrap_or(0);
+    let octets = number_in(value, member::OCTETS).unwrap_or(0);
     let place = place_of(value);
     let rate = rate_since(seen, next.now, &place, octets);
     next.note(place, octets)?;
@@ -51,9 +52,9 @@ pub(crate) fn look_at(value: &Value<'_>, seen: &Seen, next: &mut Seen) -> Result
 
 fn place_of(value: &Value<'_>) -> Place {
     Place {
-        source: number_in(value, "source").unwrap_or(0),
-        seq: number_in(value, "seq").unwrap_or(0),
-        lane: number_in(value, "lane").unwrap_or(0),
+        source: number_in(value, member::SOURCE).unwrap_or(0),
+        seq: number_in(value, member::SEQ).unwrap_or(0),
+        lane: number_in(value, member::LANE).unwrap_or(0),
     }
 }
 

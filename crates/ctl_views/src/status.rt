@@ -6,6 +6,7 @@ use crate::rows::{Table, Tables, push_record};
 use crate::seen::Seen;
 use crate::table::push_table;
 use json::Scratch;
+use station_names::{kind, member};
 use std::alloc::{AllocError, Global};
 
 // How many of the transactions that have ended are shown.
@@ -59,8 +60,8 @@ fn take_line(
 ) -> Result<(), AllocError> {
     match value_of(alloc, line, scratch)? {
         Some(value) => {
-            if text_in(&value, "kind") == Some("entity") {
-                next.now = moment_in(&value, "now");
+            if text_in(&value, member::KIND) == Some(kind::ENTITY) {
+                next.now = moment_in(&value, member::NOW);
             }
             push_record(alloc, tables, &value, seen, next)
         }

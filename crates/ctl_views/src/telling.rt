@@ -6,12 +6,13 @@ use crate::page::Tone;
 use crate::parts::{NO_LOOK, push_parts};
 use crate::words::{INDICATIONS, KINDS, Said, Tint};
 use json::Value;
+use station_names::{kind, member};
 use std::alloc::{AllocError, Global};
 
 /// Adds the moment of an event, and its user and transaction if it has them.
 pub(crate) fn push_head(line: &mut String, value: &Value<'_>) -> Result<(), AllocError> {
-    push_at(line, text_in(value, "at").unwrap_or("?"))?;
-    if let Some(user) = text_in(value, "user") {
+    push_at(line, text_in(value, member::AT).unwrap_or("?"))?;
+    if let Some(user) = text_in(value, member::USER) {
         write!(line, " {user}")?;
     }
     match transaction_in(value) {
@@ -52,7 +53,7 @@ fn tone_by(tint: Tint, value: &Value<'_>) -> Tone {
     match tint {
         Tint::Always(tone) => tone,
         Tint::ByEnd => end_tone(value),
-        Tint::ByStatus if text_in(value, "status") == Some("retained") => Tone::Plain,
+        Tint::ByStatus if text_in(value, member::STATUS) == Some("retained") => Tone::Plain,
         Tint::ByStatus => Tone::Bad,
     }
 }
@@ -68,11 +69,18 @@ fn said_of(value: &Value<'_>) -> Option<Said> {
 
 // The name of an indication, or the kind of another event.
 fn name_of<'a>(value: &Value<'a>) -> Option<&'a str> {
-    text_in(value, if is_indication(value) { "name" } else { "kind" })
+    text_in(
+        value,
+        if is_indication(value) {
+            member::NAME
+        } else {
+            member::KIND
+        },
+    )
 }
 
 fn is_indication(value: &Value<'_>) -> bool {
-    text_in(value, "kind") == Some("indication")
+    text_in(value, member::KIND) == Some(kind::INDICATION)
 }
 
 fn said_in(list: &[Said], name: &str) -> Option<Said> {

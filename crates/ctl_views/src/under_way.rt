@@ -2,6 +2,7 @@
 use crate::events::{Transaction, transaction_in};
 use crate::fields::{number_in, text_in, value_of};
 use json::{Scratch, Value};
+use station_names::{kind, member, word};
 use std::alloc::{AllocError, Global};
 
 /// A file that waits in the outbox, or that is being sent.
@@ -31,7 +32,7 @@ pub fn read_under_way(alloc: Global, line: &str) -> Result<Option<UnderWay>, All
         return Ok(None);
     };
     let (Some(file), Some(remote), Some(place)) = (
-        text_in(&value, "file"),
+        text_in(&value, member::FILE),
         remote_in(&value),
         place_in(&value),
     ) else {
@@ -45,23 +46,23 @@ pub fn read_under_way(alloc: Global, line: &str) -> Result<Option<UnderWay>, All
 }
 
 fn remote_in(value: &Value<'_>) -> Option<u64> {
-    match text_in(value, "kind") {
-        Some("queued") => number_in(value, "destination"),
-        _ => number_in(value, "peer"),
+    match text_in(value, member::KIND) {
+        Some(kind::QUEUED) => number_in(value, member::DESTINATION),
+        _ => number_in(value, member::PEER),
     }
 }
 
 fn place_in(value: &Value<'_>) -> Option<Place> {
-    match (text_in(value, "kind"), text_in(value, "role")) {
-        (Some("queued"), _) => Some(Place::Queued(number_in(value, "number")?)),
-        (Some("transaction"), Some("sender")) => sent_in(value),
+    match (text_in(value, member::KIND), text_in(value, member::ROLE)) {
+        (Some(kind::QUEUED), _) => Some(Place::Queued(number_in(value, member::NUMBER)?)),
+        (Some(kind::TRANSACTION), Some(word::SENDER)) => sent_in(value),
         _ => None,
     }
 }
 
 fn sent_in(value: &Value<'_>) -> Option<Place> {
-    match text_in(value, "state") {
-        Some("ended") => None,
+    match text_in(value, member::STATE) {
+        Some(word::ENDED) => None,
         _ => Some(Place::Sent(transaction_in(value)?)),
     }
 }

@@ -6,6 +6,7 @@ use crate::parts::Part::{
     Condition, End, Name, Number, SomeNumber, SomeOctets, SomeText, Text, Words,
 };
 use crate::words::Tint::{Always, ByEnd, ByStatus};
+use station_names::{kind, member};
 
 /// How the tone of an event is chosen.
 #[derive(Clone, Copy)]
@@ -47,10 +48,10 @@ pub(crate) const INDICATIONS: [Said; 11] = [
         tint: Always(Plain),
         parts: &[
             Words("metadata received: "),
-            Name("file", "file_hex"),
+            Name(member::FILE, member::FILE_HEX),
             Words(" to "),
-            Name("to", "to_hex"),
-            SomeOctets(", ", "size"),
+            Name(member::TO, member::TO_HEX),
+            SomeOctets(", ", member::SIZE),
         ],
     },
     Said {
@@ -58,9 +59,9 @@ pub(crate) const INDICATIONS: [Said; 11] = [
         tint: Always(Faint),
         parts: &[
             Words("segment received: "),
-            Number("length", "?"),
+            Number(member::LENGTH, "?"),
             Words(" octets at "),
-            Number("offset", "?"),
+            Number(member::OFFSET, "?"),
         ],
     },
     Said {
@@ -71,16 +72,16 @@ pub(crate) const INDICATIONS: [Said; 11] = [
     Said {
         name: "Resumed",
         tint: Always(Plain),
-        parts: &[Words("resumed at octet "), Number("progress", "?")],
+        parts: &[Words("resumed at octet "), Number(member::PROGRESS, "?")],
     },
     Said {
         name: "Report",
         tint: Always(Plain),
         parts: &[
             Words("report: "),
-            Text("phase", "?"),
+            Text(member::PHASE, "?"),
             Words(", octets "),
-            Number("progress", "?"),
+            Number(member::PROGRESS, "?"),
         ],
     },
     Said {
@@ -103,115 +104,118 @@ pub(crate) const INDICATIONS: [Said; 11] = [
 /// The entries for other events, by kind.
 pub(crate) const KINDS: [Said; 12] = [
     Said {
-        name: "start",
+        name: kind::START,
         tint: Always(Plain),
-        parts: &[Words("the server starts as entity "), Number("id", "?")],
+        parts: &[
+            Words("the server starts as entity "),
+            Number(member::ID, "?"),
+        ],
     },
     Said {
-        name: "end",
+        name: kind::END,
         tint: Always(Plain),
         parts: &[Words("the server ends")],
     },
     Said {
-        name: "put",
+        name: kind::PUT,
         tint: Always(Plain),
         parts: &[
             Words("put: "),
-            Name("file", "file_hex"),
+            Name(member::FILE, member::FILE_HEX),
             Words(" to "),
-            Name("to", "to_hex"),
-            SomeOctets(", ", "size"),
+            Name(member::TO, member::TO_HEX),
+            SomeOctets(", ", member::SIZE),
             Words(", for entity "),
-            Number("peer", "?"),
+            Number(member::PEER, "?"),
             Words(" in class "),
-            Number("class", "?"),
-            SomeNumber(", file ", "queued", " of the outbox"),
+            Number(member::CLASS, "?"),
+            SomeNumber(", file ", member::QUEUED, " of the outbox"),
         ],
     },
     Said {
-        name: "stored",
+        name: kind::STORED,
         tint: ByStatus,
-        parts: &[Words("file "), Text("status", "?")],
+        parts: &[Words("file "), Text(member::STATUS, "?")],
     },
     Said {
-        name: "unsent",
+        name: kind::UNSENT,
         tint: Always(Bad),
         parts: &[
             Words("file "),
-            Number("queued", "?"),
+            Number(member::QUEUED, "?"),
             Words(" of the outbox is not sent: "),
-            Name("file", "file_hex"),
+            Name(member::FILE, member::FILE_HEX),
             Words(", for entity "),
-            Number("destination", "?"),
+            Number(member::DESTINATION, "?"),
             Words(": "),
-            Text("why", "?"),
-            SomeText(" (", "reason", ")"),
+            Text(member::WHY, "?"),
+            SomeText(" (", member::REASON, ")"),
         ],
     },
     Said {
-        name: "hold",
+        name: kind::HOLD,
         tint: Always(Plain),
         parts: &[
             Words("the link to entity "),
-            Number("id", "?"),
+            Number(member::ID, "?"),
             Words(" is held"),
         ],
     },
     Said {
-        name: "release",
+        name: kind::RELEASE,
         tint: Always(Plain),
         parts: &[
             Words("the link to entity "),
-            Number("id", "?"),
+            Number(member::ID, "?"),
             Words(" is released"),
         ],
     },
     Said {
-        name: "unparked",
+        name: kind::UNPARKED,
         tint: Always(Bad),
         parts: &[
             Words("parked datagrams dropped for want of room: "),
-            Number("count", "?"),
+            Number(member::COUNT, "?"),
         ],
     },
     Said {
-        name: "command",
+        name: kind::COMMAND,
         tint: Always(Plain),
         parts: &[
             Words("command "),
-            Text("words", "?"),
+            Text(member::WORDS, "?"),
             Words(": "),
-            Text("answer", "?"),
-            SomeText(" (", "reason", ")"),
+            Text(member::ANSWER, "?"),
+            SomeText(" (", member::REASON, ")"),
             Words(", from "),
-            Text("by", "?"),
-            SomeNumber(" at seat ", "seat", ""),
+            Text(member::BY, "?"),
+            SomeNumber(" at seat ", member::SEAT, ""),
         ],
     },
     Said {
-        name: "skipped",
+        name: kind::SKIPPED,
         tint: Always(Plain),
         parts: &[
             Words("transaction numbers skipped toward entity "),
-            Number("destination", "?"),
+            Number(member::DESTINATION, "?"),
             Words(": "),
-            Number("count", "?"),
-            SomeNumber(", the next one is ", "next", ""),
+            Number(member::COUNT, "?"),
+            SomeNumber(", the next one is ", member::NEXT, ""),
         ],
     },
     Said {
-        name: "refused",
+        name: kind::REFUSED,
         tint: Always(Bad),
         parts: &[
             Words("refused: "),
-            Text("name", "?"),
-            SomeNumber(" ", "fault", ""),
-            SomeNumber(", times ", "count", ""),
-            SomeText(", from ", "from", ""),
+            Text(member::NAME, "?"),
+            SomeNumber(" ", member::FAULT, ""),
+            SomeNumber(", times ", member::COUNT, ""),
+            SomeText(", from ", member::FROM, ""),
         ],
     },
     Said {
-        name: "reads-ended",
+        name: kind::READS_ENDED,
         tint: Always(Bad),
         parts: &[Words("a worker stopped reading: its socket failed")],
     },

@@ -9,7 +9,7 @@ const HISTORY_OPTIONS: [&str; 5] = ["json", "log", "since", "remote", "failed"];
 
 const ACT_OPTIONS: [&str; 4] = ["all", "remote", "user", "yes"];
 
-/// The task of `history`; the files behind the options are logs too.
+/// The task of `history`; the files after the options are logs too.
 pub(crate) fn history_task<'a>(
     alloc: Global,
     matches: &ArgMatches<'a>,

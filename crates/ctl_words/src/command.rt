@@ -1,5 +1,6 @@
 //! The options of the program.
 use clap::{Arg, ArgAction, Command};
+use release::VERSION;
 use std::alloc::{AllocError, Global};
 
 /// An option with a value.
@@ -14,7 +15,7 @@ fn flag<'a>(alloc: Global, name: &'static str) -> Arg<'a> {
 
 /// The options and words of the program.
 pub(crate) fn command<'a>(alloc: Global) -> Result<Command<'a>, AllocError> {
-    let command = with_options(alloc, Command::new(alloc, "cfdp_ctl").version("0.1"))?;
+    let command = with_options(alloc, Command::new(alloc, "cfdp_ctl").version(VERSION))?;
     let command = with_send(alloc, command)?;
     with_choice(alloc, command)?.arg(
         Arg::new(alloc, "words")

@@ -1,11 +1,13 @@
+use release::versioned;
+
 const HELP: &str = "Commands a running cfdp_server over its control socket.
 
 Usage: cfdp_ctl --control PATH [OPTIONS] [COMMAND [WORD..]]
 
-Without a command it reads commands from standard input, one a line, and prints each answer.
+Without a command it reads commands from standard input, one a line, and prints each reply.
 
   --control PATH             the server's control socket (default: the variable CFDP_CONTROL)
-  --wait-for-server SECONDS  how long a server may take to answer, 0 to 86400 (default: 5)
+  --wait-for-server SECONDS  how long a server may take to reply, 0 to 86400 (default: 5)
   --colour WHEN              auto, always or never: auto colours a terminal, unless NO_COLOR is set
   --width COLUMNS            how wide tables are, 40 to 1000 (default: the variable COLUMNS, or 100)
   --help                     prints this, and ends
@@ -39,9 +41,9 @@ Commands:
       --into FOLDER          a folder at the receiver
       --wait                 waits until each file has ended
   watch FOLDER --to REMOTE [--user U] [--class N] [--into FOLDER] [--once]
-                             sends each file that comes into a folder, in the order of their names: one
-                             that has arrived is moved to its folder sent, another one to its folder
-                             failed, with the reason beside it; names that begin with a dot are left alone
+                             sends each file that comes into a folder, in the order of their names. A
+                             file that has arrived is moved to the subfolder sent, any other to failed,
+                             with the reason beside it. Names that begin with a dot are left alone
       --to REMOTE, --user U, --class N, --into FOLDER
                              as for send
       --once                 ends when no file is left to send
@@ -85,5 +87,5 @@ pub fn ctl_help() -> &'static str {
 
 /// What `--version` prints.
 pub fn ctl_version() -> &'static str {
-    "cfdp_ctl 0.1\n"
+    versioned!("cfdp_ctl ", "\n")
 }

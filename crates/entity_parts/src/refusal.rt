@@ -1,7 +1,7 @@
 ghost use Rattle.std.specs.Prelude.{◌≡◌};
 ghost use Rattle.entity_parts.specs.Refusals.{is_final, is_passing, name_of, number_of};
 
-use entity_routing::RouteRefusal;
+use entity_routing::{RouteRefusal, WRONG_LANE_NAME, WRONG_LANE_NUMBER};
 use lane_table::Refused;
 use txn_events::Refusal;
 
@@ -25,7 +25,7 @@ impl EntityRefusal {
         match self {
             EntityRefusal::Route(why) => why.number(),
             EntityRefusal::Lane(refused) => refused.why.number(),
-            EntityRefusal::WrongLane => 26,
+            EntityRefusal::WrongLane => WRONG_LANE_NUMBER,
         }
     }
 
@@ -36,7 +36,7 @@ impl EntityRefusal {
         match self {
             EntityRefusal::Route(why) => why.name(),
             EntityRefusal::Lane(refused) => refused.why.name(),
-            EntityRefusal::WrongLane => "WrongLane",
+            EntityRefusal::WrongLane => WRONG_LANE_NAME,
         }
     }
 

@@ -8,7 +8,7 @@ mod routing;
 mod world_event;
 
 pub use place::Place;
-pub use refusal::RouteRefusal;
+pub use refusal::{RouteRefusal, WRONG_LANE_NAME, WRONG_LANE_NUMBER};
 pub use routing::{
     key_of_pdu, lanes_of, params_of_put, place_of_key, place_of_own, place_of_pdu, source_of_lane,
 };

@@ -3,6 +3,11 @@ ghost use Rattle.entity_routing.specs.Refusal.{refusal_name, refusal_number};
 
 use pdu_reading::DecodeFault;
 
+/// The number and the name of an entity's refusal that is no reason of a route: the lane behind a lock is another one.
+pub const WRONG_LANE_NUMBER: u8 = 26;
+
+pub const WRONG_LANE_NAME: &str = "WrongLane";
+
 /// Why no lane gets an event, which then changes nothing. Where several reasons apply, the first is reported.
 #[derive(Clone, Copy, Debug, PartialEq, Eq)]
 pub enum RouteRefusal {

@@ -5,7 +5,6 @@ ghost use Rattle.indications.specs.Words.{is_end};
 
 use crate::kind::IndicationKind;
 use cfdp_types::{Boxed, Condition, Delivery, EntityId, FileStatus, Messages, Octets};
-use smallvec::SmallVec;
 use std::alloc::{AllocError, Global};
 use std::marker::Model;
 
@@ -68,13 +67,6 @@ pub enum Indication {
     },
 }
 
-// What a list has where it holds nothing.
-impl Default for Indication {
-    fn default() -> Indication {
-        Indication::Transaction
-    }
-}
-
 impl Indication {
     /// A copy of the indication.
     pub fn copy(&self) -> Result<Indication, AllocError>
@@ -112,11 +104,10 @@ impl Indication {
     }
 }
 
-/// The indications of one step, in order: most often one, which then takes no memory of its own. Contracts see the list
-/// of them.
+/// The indications of one step, in order. Contracts see the list of them.
 #[derive(Debug, Drop)]
 pub struct Indications {
-    items: SmallVec<Indication, 1>,
+    items: Vec<Indication>,
 }
 
 impl Model for Indications {
@@ -134,7 +125,7 @@ impl Indications {
         ensures { result ≡ [] }
     {
         Indications {
-            items: SmallVec::new(alloc),
+            items: Vec::new(alloc),
         }
     }
 
@@ -150,10 +141,8 @@ impl Indications {
         requires { vec_len told.old + length self ≤ vec_capacity told.old }
         ensures { told.new.items ≡ told.old.items ++ self }
     {
-        let Indications { items } = self;
-        for indication in items {
-            told.push_reserved(indication);
-        }
+        let Indications { mut items } = self;
+        let _done = told.append(&mut items);
     }
 
     /// Whether one of them indicates the end of the transaction.
@@ -168,7 +157,7 @@ impl Indications {
         ensures { IfOk result (λ copy. copy ≡ self.now) }
     {
         let told = self.as_slice();
-        let mut items = SmallVec::with_capacity(*self.items.allocator(), told.len())?;
+        let mut items = Vec::with_capacity(*self.items.allocator(), told.len())?;
         for indication in told {
             items.push(indication.copy()?)?;
         }

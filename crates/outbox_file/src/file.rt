@@ -95,7 +95,7 @@ impl<D: Disk + Drop> Model for StoredOutbox<D> {
 
 impl<D: Disk + Drop> StoredOutbox<D> {
     /// Opens the file of this name in the disk's own folder: reads it, and writes what it says again as a whole, so that
-    /// an error shows before anything is queued. Where there is no file, nothing was queued yet. What stands behind the
+    /// an error shows before anything is queued. Where there is no file, nothing was queued yet. What follows the
     /// last line feed is passed over: a cut of power tore that line. A file with a line that says nothing is left as it
     /// is. A name with a slash can't be written.
     pub fn open(disk: D, alloc: Global, path: String) -> Result<StoredOutbox<D>, StoredOutboxFault>
@@ -138,7 +138,7 @@ impl<D: Disk + Drop> StoredOutbox<D> {
         self.book.next
     }
 
-    /// Notes that a file waits since a moment, by the words of its command; answers its number.
+    /// Notes that a file waits since a moment, by the words of its command; returns its number.
     pub fn queued(&mut self, since: u64, words: &[u8]) -> Result<u64, StoredOutboxFault>
         ensures number { IfOk result (λ number. number ≡ self.old.book.next) }
         ensures over { self.old.book.next ≡ 2 ^ 64 - 1 → result ≡ Err StoredOutboxFault.Over }
@@ -185,7 +185,7 @@ impl<D: Disk + Drop> StoredOutbox<D> {
         self.note(Line::Dropped(number))
     }
 
-    // Notes a line: behind the others, or, where the file has grown or isn't known, with all of them anew.
+    // Notes a line: after the others, or, where the file has grown or isn't known, with all of them anew.
     fn note(&mut self, line: Line) -> Result<(), StoredOutboxFault>
         requires { IsPlain line }
         ensures { NotesLine line self.old result self.new }
@@ -238,7 +238,7 @@ fn read_book<D: Disk>(disk: &mut D, alloc: Global, path: &str) -> Result<Book, S
     }
 }
 
-// Writes a line with this text, behind the others, or with all of them anew. Answers the size of the file.
+// Writes a line with this text, after the others, or with all of them anew. Returns the size of the file.
 fn put_line<D: Disk>(
     disk: &mut D,
     alloc: Global,
@@ -266,7 +266,7 @@ fn put_line<D: Disk>(
     Ok(Size::of_whole(octets))
 }
 
-// Writes a line behind the others.
+// Writes a line after the others.
 fn append_line<D: Disk>(
     disk: &mut D,
     _path: &str,
@@ -284,7 +284,7 @@ fn append_line<D: Disk>(
     disk.flush()
 }
 
-// Writes the whole file anew: what a book says, and one line more, which has this text. Answers its octets.
+// Writes the whole file anew: what a book says, and one line more, which has this text. Returns its octets.
 fn rewrite<D: Disk>(
     disk: &mut D,
     alloc: Global,

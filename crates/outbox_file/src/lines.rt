@@ -108,7 +108,7 @@ fn short_line(kind: &[u8], number: &[u8]) -> Option<Line>
     }
 }
 
-// The line of a file that waits, from its number and the words behind it.
+// The line of a file that waits, from its number and the words after it.
 fn queued_from(alloc: Global, number: &[u8], rest: Rest<'_>) -> Result<Option<Line>, AllocError>
     ensures { IfOk result (λ line. line ≡ queued_from number.now (words_left (option_copied rest.entry))) }
 {

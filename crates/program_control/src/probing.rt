@@ -1,13 +1,8 @@
 //! Finds out whether a server listens at a Unix socket.
-use libc::net as c;
+use std::io::ErrorKind;
 use std::net::Net;
-use std::os::fd::AsRawFd;
 use std::os::unix::net::UnixStream;
-
-// The family of a Unix address, and how many octets its path may have.
-const UNIX: u16 = 1;
-
-const PATH_OCTETS: usize = 107;
+use unix_sockets::{connect_to, is_address};
 
 /// What is known of a path where a server may listen.
 #[derive(Clone, Copy, Debug, PartialEq, Eq)]
@@ -19,8 +14,7 @@ pub(crate) enum Probed {
 
 /// Connects to a path and leaves again, without ever waiting: a full queue of connections shows that a server listens.
 pub(crate) fn probe<R: Net>(rt: &R, path: &str) -> Probed {
-    let path = path.as_bytes();
-    if path.len() > PATH_OCTETS {
+    if !is_address(path) {
         return Probed::Unknown;
     }
     let Ok(socket) = rt.unix_socket() else {
@@ -30,17 +24,12 @@ pub(crate) fn probe<R: Net>(rt: &R, path: &str) -> Probed {
     if socket.set_nonblocking(true).is_err() {
         return Probed::Unknown;
     }
-    let mut address = [0u8; 128];
-    address[..2].copy_from_slice(&UNIX.to_ne_bytes());
-    address[2..2 + path.len()].copy_from_slice(path);
-    let length = path.len() as u32 + 3;
-    // the call reads the first octets of the address, and changes none of the program's memory
-    if unsafe { c::connect(socket.as_raw_fd(), &address, length) } == 0 {
-        return Probed::Listens;
-    }
-    match os::errno() {
-        libc::EAGAIN => Probed::Listens,
-        libc::ECONNREFUSED => Probed::Nobody,
-        _ => Probed::Unknown,
+    match connect_to(&socket, path) {
+        Ok(()) => Probed::Listens,
+        Err(error) => match error.kind() {
+            ErrorKind::WouldBlock => Probed::Listens,
+            ErrorKind::ConnectionRefused => Probed::Nobody,
+            _ => Probed::Unknown,
+        },
     }
 }

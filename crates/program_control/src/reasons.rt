@@ -5,8 +5,8 @@ use std::alloc::{AllocError, Global};
 use std::net::Net;
 use std::rt::Files;
 
-// The most octets of a socket's path, with the number of its temporary path.
-const PATH_OCTETS: usize = 104;
+// The most octets of a socket's path, which leave room for the number of its temporary path.
+const PATH_OCTETS: usize = unix_sockets::PATH_OCTETS - 3;
 
 /// Adds a line that says why no control socket can be made at a path. To find that out, it is tried again.
 pub fn push_control_reason<R: Files + Net>(
@@ -21,7 +21,7 @@ pub fn push_control_reason<R: Files + Net>(
             Ok(())
         }
         Err(ControlFault::Live) => writeln!(text, "{path}: another program listens there"),
-        Err(ControlFault::NotSocket) => writeln!(text, "{path}: is there, and is no socket"),
+        Err(ControlFault::NotSocket) => writeln!(text, "{path}: exists, but is not a socket"),
         Err(ControlFault::System) => push_system(rt, text, path),
     }
 }

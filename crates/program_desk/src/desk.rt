@@ -64,7 +64,7 @@ impl Desk {
         self.step_room
     }
 
-    /// Leaves a parsed line, with the client that awaits its answer, if it came from one; answers whether more lines
+    /// Leaves a parsed line, with the client that awaits its answer, if it came from one; returns whether more lines
     /// are wanted.
     pub fn leave_line<R: Wait>(&self, rt: &R, said: Said, asker: Option<Asker>) -> bool {
         let mut trays = self.trays.lock(rt);
@@ -186,7 +186,7 @@ impl Desk {
         trays.rest = Rest::Awake;
     }
 
-    // Naps, unless work is there that can't wait; answers whether there is still no work after it.
+    // Naps, unless work is there that can't wait; returns whether there is still no work after it.
     fn nap<R: Wait + Clock>(&self, rt: &R) -> bool {
         let mut trays = self.trays.lock(rt);
         if trays.has_something_urgent() {

@@ -47,7 +47,7 @@ impl Desk {
         size
     }
 
-    // Lists a file as being read; answers the number of the reading.
+    // Lists a file as being read; returns the number of the reading.
     fn begin_reading<R: Wait + Clock>(&self, rt: &R, path: &Octets) -> Result<u64, AllocError> {
         let (path, since) = (path.copy()?, wall_moment(rt));
         let mut trays = self.trays.lock(rt);

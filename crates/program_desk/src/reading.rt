@@ -40,7 +40,7 @@ pub fn read_lines<R: Wait + Clock, F: FileReader, B: BufRead>(
     desk.end_lines(rt);
 }
 
-// Leaves one line; answers whether more are to be read.
+// Leaves one line; returns whether more are to be read.
 fn leave_line<R: Wait + Clock, F: FileReader>(
     rt: &R,
     alloc: Global,
@@ -53,7 +53,7 @@ fn leave_line<R: Wait + Clock, F: FileReader>(
     desk.leave_line(rt, said, None) && line != b"quit".as_slice()
 }
 
-// Skips to after the next line feed; answers whether there was one.
+// Skips to after the next line feed; returns whether there was one.
 fn skip_line<R: Wait, B: BufRead>(rt: &R, reader: &mut B) -> bool {
     let mut interruptions = 0u32;
     for _ in rt.forever() {

@@ -137,7 +137,7 @@ impl Lot {
         self.note(&lanes);
     }
 
-    /// Memory ran out somewhere, so the later half of what waits for each lane is dropped; answers how many datagrams that was.
+    /// Memory ran out somewhere, so the later half of what waits for each lane is dropped; returns how many datagrams that was.
     pub fn give_way<R: Wait>(&self, rt: &R) -> usize {
         if !self.is_occupied() {
             return 0;
@@ -167,7 +167,7 @@ impl Lot {
         self.note(&lanes);
     }
 
-    /// Drops what waits of a transaction; answers how many datagrams that was.
+    /// Drops what waits of a transaction; returns how many datagrams that was.
     pub fn forget<R: Wait>(&self, rt: &R, address: LotAddress) -> usize {
         let index = self.index_of(address.place);
         let mut lanes = self.lanes.lock(rt);
@@ -215,7 +215,7 @@ impl Lot {
         Ok(found)
     }
 
-    // The index behind a user's last lane, of so many in all.
+    // The index after a user's last lane, of so many in all.
     fn end_of(&self, user: usize, count: usize) -> usize {
         self.first_of
             .get(user.saturating_add(1))
@@ -240,7 +240,7 @@ fn count_in(lanes: &Lanes, index: usize) -> usize {
     }
 }
 
-// Parks a datagram; counts what is dropped for it, and answers how many that were.
+// Parks a datagram; counts what is dropped for it, and returns how many that were.
 fn park_in(
     lanes: &mut Lanes,
     index: usize,
@@ -264,7 +264,7 @@ fn park_in(
     given_up.saturating_add(note_dropped(lanes, index, left.saturating_add(1)))
 }
 
-// Counts what was dropped of a lane that had so many datagrams, and answers how many that were.
+// Counts what was dropped of a lane that had so many datagrams, and returns how many that were.
 fn note_dropped(lanes: &mut Lanes, index: usize, before: usize) -> usize {
     let dropped = before.saturating_sub(count_in(lanes, index));
     if let Some(turn) = lanes.turns.get_mut(index) {
@@ -273,7 +273,7 @@ fn note_dropped(lanes: &mut Lanes, index: usize, before: usize) -> usize {
     dropped
 }
 
-// Drops the later half of what waits for each lane; counts it, and answers how many datagrams that were.
+// Drops the later half of what waits for each lane; counts it, and returns how many datagrams that were.
 fn give_way_in(lanes: &mut Lanes) -> usize {
     let mut dropped = 0usize;
     for index in 0..lanes.turns.len() {

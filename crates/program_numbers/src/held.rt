@@ -149,7 +149,7 @@ fn block_of(puts: Puts, config: &Config) -> u64
     }
 }
 
-// The folder of a path, and the name behind it.
+// The folder of a path, and the name after it.
 fn parts_of(path: &str) -> (&str, &str)
     ensures { result.1.now ≡ name_of path.now }
 {

@@ -25,7 +25,7 @@ pub fn push_numbers_reason<R: Files + Net>(
             push_unnumbered(rt, alloc, text, path)
         }
         Err(ControlFault::Live) => writeln!(text, "{path}: another program uses it"),
-        Err(ControlFault::NotSocket) => writeln!(text, "{lock}: is there, and is no socket"),
+        Err(ControlFault::NotSocket) => writeln!(text, "{lock}: exists, but is not a socket"),
         Err(ControlFault::System) => push_unheld(rt, text, path, lock.as_str()),
     }
 }

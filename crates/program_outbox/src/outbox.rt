@@ -88,7 +88,7 @@ impl Outbox {
         })
     }
 
-    /// Puts a user's file after all others; answers its number.
+    /// Puts a user's file after all others; returns its number.
     pub fn push(&mut self, user: usize, file: OutboxFile) -> Result<u64, OutboxFault>
         ensures ok { IfOk result (λ number. (number ≡ self.old.next) × (self.new ≡ queued user file self.old)) }
         ensures err { OnErr result (self.new ≡ self.old) }

@@ -66,7 +66,7 @@ impl Outgoing {
         })
     }
 
-    /// Puts a user's file after all others, and has files tried from this moment on. Answers its number.
+    /// Puts a user's file after all others, and has files tried from this moment on. Returns its number.
     pub fn push(&mut self, user: usize, file: OutboxFile, now: u64) -> Result<u64, OutboxFault>
         ensures ok { IfOk result (λ number. (number ≡ self.old.outbox.next) × (self.new ≡ queued_at user file now self.old)) }
         ensures err { OnErr result (self.new ≡ self.old) }
@@ -110,7 +110,7 @@ impl Outgoing {
         self.outbox.go_on_from(next);
     }
 
-    /// Whether no more file has room.
+    /// Whether there is no room for another file.
     pub fn is_full(&self) -> bool
         ensures { result ≡ nat_le 1024 (file_count self.now) }
     {
@@ -210,7 +210,7 @@ impl Outgoing {
     }
 
     /// Has the file read whose turn it is, unless one is being read: one that waits, or else the first one that came back, from
-    /// the moment on at which those are tried; each of a user with an idle lane whose files to its entity aren't stopped. Answers
+    /// the moment on at which those are tried; each of a user with an idle lane whose files to its entity aren't stopped. Returns
     /// whether there is one. Where there is none, files are tried again ten milliseconds later.
     pub fn begin_reading(&mut self, now: u64, idle: &[bool], stops: &[Stop]) -> bool
         ensures began { result ≡ is_some (next_file now idle.now stops.now self.old) }

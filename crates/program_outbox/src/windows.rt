@@ -81,7 +81,7 @@ impl Windows {
             .fold(until, |moment, window| moment.min(window.until))
     }
 
-    /// Takes out a window that is over at a moment; answers whose link is to be held.
+    /// Takes out a window that is over at a moment; returns whose link is to be held.
     pub fn take_over(&mut self, now: u64) -> Option<EntityId>
         ensures remote { result ≡ remote_at (position (has_end now) self.old) self.old }
         ensures rest { self.new ≡ without_place (position (has_end now) self.old) self.old }

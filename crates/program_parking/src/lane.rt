@@ -176,7 +176,7 @@ impl LaneParking {
     }
 }
 
-// Parks a datagram; answers how much of the room those that wait take up then.
+// Parks a datagram; returns how much of the room those that wait take up then.
 fn park_in(
     waiting: &mut VecDeque<Parked>,
     octets: u64,
@@ -300,7 +300,7 @@ fn fit(waiting: &VecDeque<Parked>, limit: u64) -> (usize, u64)
     (waiting.len(), limit - left)
 }
 
-// Takes out the first datagrams, so many; answers how many octets are left.
+// Takes out the first datagrams, so many; returns how many octets are left.
 fn drop_front(waiting: &mut VecDeque<Parked>, octets: u64, count: usize) -> u64
     requires { octets ≡ costs waiting.old.items }
     ensures rest { waiting.new.items ≡ drop count waiting.old.items }
@@ -315,7 +315,7 @@ fn drop_front(waiting: &mut VecDeque<Parked>, octets: u64, count: usize) -> u64
     octets
 }
 
-// Drops the last datagrams that don't fit into some octets, or of which more than enough wait; answers how many octets are left.
+// Drops the last datagrams that don't fit into some octets, or of which more than enough wait; returns how many octets are left.
 fn cut(waiting: &mut VecDeque<Parked>, limit: u64) -> u64
     ensures within { waiting.new.items ≡ within limit waiting.old.items }
     ensures octets { result ≡ costs waiting.new.items }
@@ -324,7 +324,7 @@ fn cut(waiting: &mut VecDeque<Parked>, limit: u64) -> u64
     shorten(waiting, limit)
 }
 
-// Drops the last datagrams that don't fit into some octets; answers how many octets are left.
+// Drops the last datagrams that don't fit into some octets; returns how many octets are left.
 #[tactic(auto, using(crate::proofs::PlaceFacts::fitting_is_front))]
 fn shorten(waiting: &mut VecDeque<Parked>, limit: u64) -> u64
     ensures fitting { waiting.new.items ≡ fitting limit waiting.old.items }

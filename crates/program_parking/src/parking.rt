@@ -147,7 +147,7 @@ impl Parking {
     }
 }
 
-// Parks a datagram in the lane at a place; answers how much of the room the lane takes up then.
+// Parks a datagram in the lane at a place; returns how much of the room the lane takes up then.
 fn park_at(
     lanes: &mut Vec<LaneParking>,
     place: usize,
@@ -175,7 +175,7 @@ fn lend_at(lanes: &mut Vec<LaneParking>, place: usize) -> Result<Option<Lent>, A
     lanes[place].lend()
 }
 
-// Settles the datagram that was lent of the lane at a place; answers how much of the room the lane takes up then.
+// Settles the datagram that was lent of the lane at a place; returns how much of the room the lane takes up then.
 fn settle_at(
     lanes: &mut Vec<LaneParking>,
     place: usize,
@@ -194,7 +194,7 @@ fn settle_at(
     lane.octets()
 }
 
-// Drops what waits of a transaction in the lane at a place; answers how much of the room the lane takes up then.
+// Drops what waits of a transaction in the lane at a place; returns how much of the room the lane takes up then.
 fn forget_at(lanes: &mut Vec<LaneParking>, place: usize, number: u64) -> u64
     requires { place < length lanes.old.items }
     ensures lanes { (lane : LaneValue) → slice_get lanes.old.items place ≡ Some lane
@@ -207,7 +207,7 @@ fn forget_at(lanes: &mut Vec<LaneParking>, place: usize, number: u64) -> u64
     lane.octets()
 }
 
-// Halves what waits for the lane at a place; answers how much of the room the lane takes up then.
+// Halves what waits for the lane at a place; returns how much of the room the lane takes up then.
 fn give_way_at(lanes: &mut Vec<LaneParking>, place: usize) -> u64
     requires { place < length lanes.old.items }
     ensures lanes { (lane : LaneValue) → slice_get lanes.old.items place ≡ Some lane → lanes.new.items ≡ set lanes.old.items place (halved lane) }

@@ -23,7 +23,7 @@ pub fn key_of_name(name: &[u8]) -> Option<TxnKey>
     key_with(&name[..place], &name[place + 1..])
 }
 
-// The transaction by its first number, and what stands behind the first point.
+// The transaction by its first number, and what follows the first point.
 fn key_with(source: &[u8], rest: &[u8]) -> Option<TxnKey>
     ensures { result ≡ key_with source.now rest.now }
 {

@@ -18,7 +18,7 @@ pub fn piece_length(rest: &[u8]) -> usize
     }
 }
 
-// Behind which octet the rest is to be cut: behind the last line that is whole within a piece, or else behind the first line.
+// After which octet the rest is to be cut: after the last line that is whole within a piece, or else after the first line.
 fn cut_in(rest: &[u8]) -> usize {
     let feed = match rest.get(..PIECE_OCTETS) {
         Some(most) => memrchr(b'\n', most).or(memchr(b'\n', rest)),

@@ -88,7 +88,7 @@ impl<const ROOM: usize> Outbox<ROOM> {
         self.pending.is_empty()
     }
 
-    /// Appends a text to what waits; answers whether it was taken. If an open way has no room or memory for it, the way
+    /// Appends a text to what waits; returns whether it was taken. If an open way has no room or memory for it, the way
     /// is cut and what waited is dropped.
     pub fn put(&mut self, text: &[u8]) -> bool
         ensures { IsPut ROOM text.now self.old result self.new }

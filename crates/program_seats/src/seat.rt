@@ -133,7 +133,7 @@ impl<const ROOM: usize> Seat<ROOM> {
         !(self.is_closed || self.stream.is_some())
     }
 
-    /// Lets a client sit down, with nothing of the one before, and answers the visit's number; none where the seat is
+    /// Lets a client sit down, with nothing of the one before, and returns the visit's number; none where the seat is
     /// taken or closed, or the visit numbers are used up.
     pub fn sit(&mut self, stream: UnixStream) -> Option<u64>
         ensures number { IfSome result (λ visit. visit ≡ self.new.visits) }

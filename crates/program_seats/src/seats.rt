@@ -169,7 +169,7 @@ impl Seats {
         }
     }
 
-    /// Waits until the client's command is answered; answers whether more may be read from the client.
+    /// Waits until the client's command is answered; returns whether more may be read from the client.
     pub fn wait_answer<R: Wait>(&self, rt: &R, asker: Asker) -> bool {
         let Some(place) = self.places.get(asker.seat) else {
             return false;
@@ -187,7 +187,7 @@ impl Seats {
         false
     }
 
-    // Wakes the thread that writes to a client, and counts a client that was cut off; answers whether the text was
+    // Wakes the thread that writes to a client, and counts a client that was cut off; returns whether the text was
     // taken.
     fn note_given(&self, place: &Place, given: Given) -> bool {
         match given {

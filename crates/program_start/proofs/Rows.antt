@@ -5,7 +5,7 @@ use Rattle.program_start.specs.declared.unread.Unread.TheVariants as unread
 
 reasons : map unread_words (unread.NotThere ∷ unread.Denied ∷ unread.Folder ∷ unread.NotPlain ∷ unread.NoFolder ∷ unread.Circle ∷ unread.NoPath ∷ unread.NotText
     ∷ unread.System ∷ [])
-    ≡ codes "is not there" ∷ codes "permission denied" ∷ codes "is a folder" ∷ codes "no plain file" ∷ codes "a part of the path is no folder"
-    ∷ codes "its links lead in a circle" ∷ codes "no such path can be: it is too long, or has a zero octet" ∷ codes "the path is not UTF-8"
+    ≡ codes "is not there" ∷ codes "permission denied" ∷ codes "is a folder" ∷ codes "not a plain file" ∷ codes "a part of the path is not a folder"
+    ∷ codes "its links lead in a circle" ∷ codes "the path is too long, or has a zero octet" ∷ codes "the path is not UTF-8"
     ∷ codes "the system can't read it" ∷ []
 reasons = refl

@@ -29,6 +29,20 @@ pub struct Started<'a> {
     pub source: Option<&'a str>,
 }
 
+impl<'a> Started<'a> {
+    /// With a configuration's file alone, as for a check of it.
+    pub fn with_config(config: &'a str) -> Started<'a> {
+        Started {
+            config,
+            bind: "",
+            control: None,
+            numbers: None,
+            outbox: None,
+            source: None,
+        }
+    }
+}
+
 /// Adds a line that explains a fault, if there is more to say than its name. To find that out, the failed call is made
 /// again.
 pub fn push_explanation<R: Net + Files>(
@@ -94,7 +108,7 @@ fn push_config_reason<R: Files>(
         },
         Err(error) => {
             let offset = error.valid_up_to();
-            writeln!(text, "{path}: octet {offset} is no part of a text in UTF-8")
+            writeln!(text, "{path}: octet {offset} is not UTF-8")
         }
     }
 }

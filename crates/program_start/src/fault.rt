@@ -4,7 +4,7 @@ ghost use Rattle.std.specs.String.{string_bytes};
 ghost use Rattle.program_start.specs.Faults.{plain_text, refusal_text, fault_line};
 
 use crate::unread::Unread;
-use entity_routing::RouteRefusal;
+use entity_routing::{RouteRefusal, WRONG_LANE_NAME, WRONG_LANE_NUMBER};
 use script_io::write_whole;
 use std::alloc::{AllocError, Global};
 use std::io::Write;
@@ -82,7 +82,7 @@ pub fn push_fault(text: &mut String, program: &str, fault: &ProgramFault) -> Res
         ProgramFault::Config(number) => writeln!(text, "{program}: {plain} {number}"),
         ProgramFault::Refused(why) => push_refusal(text, program, why.number(), why.name()),
         ProgramFault::NotRouted(why) => push_refusal(text, program, why.number(), why.name()),
-        ProgramFault::WrongLane => push_refusal(text, program, 26, "WrongLane"),
+        ProgramFault::WrongLane => push_refusal(text, program, WRONG_LANE_NUMBER, WRONG_LANE_NAME),
         _ => writeln!(text, "{program}: {plain}"),
     }
 }

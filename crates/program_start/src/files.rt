@@ -45,7 +45,7 @@ fn read_up_to<R: Files>(
 }
 
 // How many octets of a file are read at once.
-const BLOCK_OCTETS: usize = 16 * 1_024;
+const BLOCK_OCTETS: usize = 4 * 1_024;
 
 // Appends all that a reader gives. It goes through one block, so that the memory of a large file is not cleared first.
 fn append_all<S: Read>(alloc: Global, reader: &mut S, octets: &mut Vec<u8>) -> io::Result<()> {

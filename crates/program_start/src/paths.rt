@@ -23,16 +23,16 @@ fn words_of(kind: ErrorKind) -> Option<&'static str> {
         ErrorKind::NotFound => Some("is not there"),
         ErrorKind::PermissionDenied => Some("permission denied"),
         ErrorKind::IsADirectory => Some("is a folder"),
-        ErrorKind::NotADirectory => Some("a part of the path is no folder"),
+        ErrorKind::NotADirectory => Some("a part of the path is not a folder"),
         ErrorKind::FilesystemLoop => Some("its links lead in a circle"),
         ErrorKind::ReadOnlyFilesystem => Some("the file system can only be read"),
         ErrorKind::InvalidFilename => Some("the path is too long"),
-        ErrorKind::InvalidInput => Some("no such path can be: it is too long, or has a zero octet"),
+        ErrorKind::InvalidInput => Some("the path is too long, or has a zero octet"),
         _ => None,
     }
 }
 
-/// Adds a line that says why a file can't be read, if it can't be: it isn't there, may not be read, is no plain file, or has
+/// Adds a line that says why a file can't be read, if it can't be: it isn't there, may not be read, isn't a plain file, or has
 /// more than `most` octets. A pipe or the like is not opened, since that might wait for a writer.
 pub fn push_file_reason<R: Files>(
     rt: &R,
@@ -54,16 +54,16 @@ pub fn push_file_reason<R: Files>(
     }
 }
 
-// Adds what something is that is no plain file.
+// Adds what something is that isn't a plain file.
 fn push_kind(text: &mut String, path: &str, found: &Metadata) -> Result<(), AllocError> {
     if found.is_dir() {
         writeln!(text, "{path}: is a folder")
     } else {
-        writeln!(text, "{path}: no plain file")
+        writeln!(text, "{path}: not a plain file")
     }
 }
 
-/// Adds a line that says why a path is no folder in which files can be, if it is none.
+/// Adds a line that says why a path isn't a folder in which files can be, if it isn't one.
 pub fn push_folder_reason<R: Files>(
     rt: &R,
     text: &mut String,
@@ -71,7 +71,7 @@ pub fn push_folder_reason<R: Files>(
 ) -> Result<(), AllocError> {
     match fs::metadata(rt, path) {
         Err(error) => push_path_reason(text, path, &error),
-        Ok(found) if !found.is_dir() => writeln!(text, "{path}: no folder"),
+        Ok(found) if !found.is_dir() => writeln!(text, "{path}: not a folder"),
         Ok(_) => Ok(()),
     }
 }

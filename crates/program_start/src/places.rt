@@ -74,7 +74,7 @@ fn push_allowed(text: &mut String, place: &Place, fault: ConfigFault) -> Result<
     }
 }
 
-// Adds the handlers that are allowed, or that there is no such condition.
+// Adds the handlers that are allowed, or that no such condition exists.
 fn push_words(text: &mut String, place: &Place) -> Result<(), AllocError> {
     text.push_str("; allowed: ")?;
     let before = text.len();

@@ -16,7 +16,7 @@ pub enum Unread {
     Folder,
     /// It is a pipe, a device or a socket.
     NotPlain,
-    /// A part of its path is no folder.
+    /// A part of its path isn't a folder.
     NoFolder,
     /// The links on its path lead in a circle.
     Circle,
@@ -37,10 +37,10 @@ impl Unread {
             Unread::NotThere => "is not there",
             Unread::Denied => "permission denied",
             Unread::Folder => "is a folder",
-            Unread::NotPlain => "no plain file",
-            Unread::NoFolder => "a part of the path is no folder",
+            Unread::NotPlain => "not a plain file",
+            Unread::NoFolder => "a part of the path is not a folder",
             Unread::Circle => "its links lead in a circle",
-            Unread::NoPath => "no such path can be: it is too long, or has a zero octet",
+            Unread::NoPath => "the path is too long, or has a zero octet",
             Unread::NotText => "the path is not UTF-8",
             Unread::System => "the system can't read it",
         }

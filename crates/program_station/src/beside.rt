@@ -31,7 +31,7 @@ pub struct Control<'x> {
 
 /// The work of a program's main thread.
 pub trait MainThread {
-    /// Works at the desk where the other threads leave work, until all is done; answers the exit status.
+    /// Works at the desk where the other threads leave work, until all is done; returns the exit status.
     fn work(self) -> Result<u8, ProgramFault>;
 }
 

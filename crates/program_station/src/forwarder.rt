@@ -50,7 +50,7 @@ pub struct Forwarder<'a, R> {
 }
 
 impl<'a, R: Wait + Clock> Forwarder<'a, R> {
-    /// Counts the datagram that was read; answers whether its source address is in the configuration.
+    /// Counts the datagram that was read; returns whether its source address is in the configuration.
     pub(crate) fn note_arrival(&mut self, octets: usize, from: SocketAddr) -> bool {
         self.last = Some((octets, from));
         let known = self.known;
@@ -105,7 +105,7 @@ impl<'a, R: Wait + Clock> Forwarder<'a, R> {
         }
     }
 
-    /// Parks the datagram that was read, from its first `count` octets, if others of its lane wait before it; answers whether
+    /// Parks the datagram that was read, from its first `count` octets, if others of its lane wait before it; returns whether
     /// it did.
     pub(crate) fn parks_behind(&mut self, count: usize) -> bool {
         self.lot.is_occupied() && self.parks(count, Crowd::Wanted)
@@ -129,7 +129,7 @@ impl<'a, R: Wait + Clock> Forwarder<'a, R> {
         true
     }
 
-    // Settles the parked datagram that was handed in, if there is one; answers whether there was one. The main thread may have
+    // Settles the parked datagram that was handed in, if there is one; returns whether there was one. The main thread may have
     // looked while it was out, so it looks again if anything waits.
     fn settle_handed(&mut self, is_taken: bool) -> bool {
         let was_handed = self.lot.settle(self.rt, is_taken);
@@ -139,7 +139,7 @@ impl<'a, R: Wait + Clock> Forwarder<'a, R> {
         was_handed
     }
 
-    /// Has parked datagrams give way where memory ran out, and counts that as a refusal; answers whether anything was dropped.
+    /// Has parked datagrams give way where memory ran out, and counts that as a refusal; returns whether anything was dropped.
     pub(crate) fn gives_way(&self) -> bool {
         let gives_way = self.lot.gives_way(self.rt);
         if gives_way {
@@ -148,7 +148,7 @@ impl<'a, R: Wait + Clock> Forwarder<'a, R> {
         gives_way
     }
 
-    // Puts a datagram that was refused for now back, or parks it; answers whether it waits. Where memory ran out, it waits if
+    // Puts a datagram that was refused for now back, or parks it; returns whether it waits. Where memory ran out, it waits if
     // others gave way.
     fn waits(&mut self, refusal: &EntityRefusal) -> bool {
         let may_wait = if lacks_memory(refusal) {
@@ -274,7 +274,7 @@ pub fn forwarders_of<'a, N: Names, R: Copy>(
     Ok(forwarders)
 }
 
-/// Runs a worker for each forwarder until no more datagrams come. If not all could be started, answers why; the others
+/// Runs a worker for each forwarder until no more datagrams come. If not all could be started, returns why; the others
 /// still run until then, and the desk is notified at the end.
 pub fn run_forwarders<N: Names + Send + Sync, R: Threads + Wait + Clock + Copy + Send + Sync>(
     rt: &R,

@@ -47,7 +47,7 @@ impl<'a, N: Names, R: Wait + Copy + Clock> Station<'a, N, R> {
         }
     }
 
-    // Hands in datagrams of lanes whose turn it is; answers whether any was taken or refused for good.
+    // Hands in datagrams of lanes whose turn it is; returns whether any was taken or refused for good.
     pub(crate) fn hand_in_some(&mut self, now: u64) -> bool {
         let Some(lot) = self.lot else {
             return false;
@@ -67,7 +67,7 @@ impl<'a, N: Names, R: Wait + Copy + Clock> Station<'a, N, R> {
         has_handed
     }
 
-    // Hands in a datagram; answers whether it was taken or refused for good.
+    // Hands in a datagram; returns whether it was taken or refused for good.
     fn hand_in(&mut self, lot: &Lot, handed: Handed, now: u64) -> bool {
         let answer = self
             .entity
@@ -83,7 +83,7 @@ impl<'a, N: Names, R: Wait + Copy + Clock> Station<'a, N, R> {
         }
     }
 
-    // Settles a datagram that was handed in and refused; answers whether it was refused for good.
+    // Settles a datagram that was handed in and refused; returns whether it was refused for good.
     fn hold_back(&mut self, lot: &Lot, handed: Handed, now: u64, refusal: &EntityRefusal) -> bool {
         if may_wait(lot.takes(), refusal) {
             lot.settle(self.rt, handed, false, now);

@@ -135,7 +135,7 @@ impl<'a> LinkBook<'a> {
         }
     }
 
-    /// Opens a link again, at a moment of the runtime's clock; answers whether it was held.
+    /// Opens a link again, at a moment of the runtime's clock; returns whether it was held.
     pub(crate) fn release(&mut self, place: usize, now: u64) -> bool {
         if !self.tallies.links.release(place) {
             return false;

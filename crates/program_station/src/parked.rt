@@ -52,7 +52,7 @@ impl<'a> WorkersLot<'a> {
         }
     }
 
-    /// Where a refusal or a fault says that memory ran out: drops the later half of what is parked; answers whether anything was.
+    /// Where a refusal or a fault says that memory ran out: drops the later half of what is parked; returns whether anything was.
     pub(crate) fn gives_way<R: Wait>(&self, rt: &R) -> bool {
         match self.lot {
             Some(lot) => lot.give_way(rt) > 0,
@@ -107,7 +107,7 @@ impl<'a> WorkersLot<'a> {
         Some(lot.park(rt, address, octets, wall_moment(rt), moment(rt)))
     }
 
-    /// The datagram that was handed in, if there is one, was taken or refused for good, or else stays where it was; answers
+    /// The datagram that was handed in, if there is one, was taken or refused for good, or else stays where it was; returns
     /// whether there was one.
     pub(crate) fn settle<R: Wait + Clock>(&mut self, rt: &R, is_taken: bool) -> bool {
         match (self.lot, self.handed.take()) {

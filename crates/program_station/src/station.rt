@@ -100,7 +100,7 @@ impl<'a, N: Names, R: Wait + Copy + Clock> Station<'a, N, R> {
     }
 
     /// Gives a remote entity its own limit in octets a second for files from a moment on, or takes it away; whatever else is sent
-    /// to it counts, too. Answers whether the configuration has the entity.
+    /// to it counts, too. Returns whether the configuration has the entity.
     pub fn limit(&mut self, remote: EntityId, octets_a_second: Option<u64>, now: u64) -> bool {
         match self.links.place_of(remote) {
             Some(place) => {
@@ -119,7 +119,7 @@ impl<'a, N: Names, R: Wait + Copy + Clock> Station<'a, N, R> {
     }
 
     /// Holds the link to a remote entity from a moment on, in milliseconds since 1970: nothing is sent to it, its files
-    /// rest, and its timers rest once they expire. Answers whether the configuration has the entity.
+    /// rest, and its timers rest once they expire. Returns whether the configuration has the entity.
     pub fn hold(&mut self, remote: EntityId, at: u64) -> bool {
         match self.links.place_of(remote) {
             Some(place) => {
@@ -130,7 +130,7 @@ impl<'a, N: Names, R: Wait + Copy + Clock> Station<'a, N, R> {
         }
     }
 
-    /// Opens the link to a remote entity again, at a moment of the runtime's clock. Answers whether the configuration
+    /// Opens the link to a remote entity again, at a moment of the runtime's clock. Returns whether the configuration
     /// has the entity.
     pub fn release(&mut self, remote: EntityId, now: u64) -> bool {
         match self.links.place_of(remote) {
@@ -243,7 +243,7 @@ impl<'a, N: Names, R: Wait + Copy + Clock> Station<'a, N, R> {
         }
     }
 
-    // Continues what waits for memory, for which parked datagrams give way; answers whether all of it is done.
+    // Continues what waits for memory, for which parked datagrams give way; returns whether all of it is done.
     fn catch_up(&mut self) -> bool {
         if !self.is_settled() {
             self.give_way();
@@ -260,7 +260,7 @@ impl<'a, N: Names, R: Wait + Copy + Clock> Station<'a, N, R> {
         self.is_settled()
     }
 
-    /// Notes the rest of the steps that workers left at the desk, in order, as far as there is memory; answers whether
+    /// Notes the rest of the steps that workers left at the desk, in order, as far as there is memory; returns whether
     /// there were any. `steps` is empty at first, with as much room as the desk has, and keeps between calls the steps
     /// that aren't noted yet.
     pub fn settle_left(&mut self, desk: &Desk, steps: &mut Vec<Step>) -> bool {
@@ -284,7 +284,7 @@ impl<'a, N: Names, R: Wait + Copy + Clock> Station<'a, N, R> {
         count > 0
     }
 
-    /// Notes the steps of lanes whose files were stored, up to the first file that the store was given, and answers what became of
+    /// Notes the steps of lanes whose files were stored, up to the first file that the store was given, and returns what became of
     /// that; `None` if there is no more, or if something waits for memory.
     pub fn take_stored(&mut self) -> Option<StoredNote> {
         let rt = self.rt;
@@ -303,7 +303,7 @@ impl<'a, N: Names, R: Wait + Copy + Clock> Station<'a, N, R> {
         None
     }
 
-    /// A turn: at most sixty-four parked datagrams, sixteen timers, and sixteen PDUs of files in rotation. Answers whether it did
+    /// A turn: at most sixty-four parked datagrams, sixteen timers, and sixteen PDUs of files in rotation. Returns whether it did
     /// any work.
     pub fn turn(&mut self, now: u64) -> bool {
         if !self.is_settled() {
@@ -316,7 +316,7 @@ impl<'a, N: Names, R: Wait + Copy + Clock> Station<'a, N, R> {
         has_gone_on || has_handed || has_expired || has_pumped
     }
 
-    // Lets timers run again that rested for a link which is open again; answers whether there were any.
+    // Lets timers run again that rested for a link which is open again; returns whether there were any.
     fn go_on(&mut self) -> bool {
         let Some(place) = self.links.going_on() else {
             return false;
@@ -334,7 +334,7 @@ impl<'a, N: Names, R: Wait + Copy + Clock> Station<'a, N, R> {
         true
     }
 
-    // Handles timers that have expired; answers whether it did any work.
+    // Handles timers that have expired; returns whether it did any work.
     fn expire_some(&mut self, now: u64) -> bool {
         let mut has_expired = false;
         for _ in 0..EXPIRATIONS {
@@ -397,7 +397,7 @@ impl<'a, N: Names, R: Wait + Copy + Clock> Station<'a, N, R> {
         !is_passing
     }
 
-    // Notes a transaction that takes no more events; answers whether there was memory for that.
+    // Notes a transaction that takes no more events; returns whether there was memory for that.
     fn note_full(&mut self, key: TxnKey) -> bool {
         self.full.contains(&key) || self.full.push(key).is_ok()
     }
@@ -412,7 +412,7 @@ impl<'a, N: Names, R: Wait + Copy + Clock> Station<'a, N, R> {
         let _there_was_room = self.note_full(key);
     }
 
-    // Sends the next PDUs of files in turn, as many as the pace and memory allow; answers whether there was one.
+    // Sends the next PDUs of files in turn, as many as the pace and memory allow; returns whether there was one.
     fn pump_some(&mut self, now: u64) -> bool {
         let mut has_pumped = false;
         for _ in 0..PUMPS {

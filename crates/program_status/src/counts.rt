@@ -9,7 +9,7 @@ use shared_lanes::Names;
 use std::alloc::{AllocError, Global};
 use std::sync::Wait;
 
-// How many transactions of a lane are followed until their ends and classes were seen. Of more, the earliest are followed no more.
+// How many transactions of a lane are followed until their ends and classes were seen. Of more, the earliest are no longer followed.
 const FOLLOWED: usize = 16;
 
 // How a transaction ended: its condition, and whether its file came whole and was retained.
@@ -106,7 +106,7 @@ impl StationCounts {
         }
     }
 
-    // Follows a transaction of a lane, and counts the one that is followed no more for it.
+    // Follows a transaction of a lane, and counts the one that is dropped for it.
     fn follow_in(&mut self, user: usize, lane: usize, followed: Followed) {
         let left = match lane_in(&mut self.users, user, lane) {
             Some(lane) => follow(lane, followed),
@@ -177,7 +177,7 @@ impl StationCounts {
         }
     }
 
-    // Counts a transaction that is followed no more, if it has ended.
+    // Counts a transaction that is no longer followed, if it has ended.
     fn count_left(&mut self, left: Option<Followed>) {
         if let Some(followed) = left {
             let end = followed.end;
@@ -228,7 +228,7 @@ fn lane_in(
     }
 }
 
-// Follows a transaction. Returns the one that is followed no more for it, or itself where there is no memory for it.
+// Follows a transaction. Returns the one that is dropped for it, or itself if memory for it runs out.
 fn follow(lane: &mut Vec<Followed>, followed: Followed) -> Option<Followed> {
     let earliest = if lane.len() >= FOLLOWED {
         Some(lane.remove(0))

@@ -146,7 +146,7 @@ impl<R: Files> EventLog<R> {
         }
     }
 
-    /// Opens the file anew; answers whether that worked.
+    /// Opens the file anew; returns whether that worked.
     pub fn reopen(&mut self, rt: &R) -> bool {
         self.close();
         self.rests_until = 0;
@@ -214,7 +214,7 @@ impl<R: Files> EventLog<R> {
         Ok(again)
     }
 
-    // Writes as much of what waits as the file takes; answers how many octets that was, and how it ended.
+    // Writes as much of what waits as the file takes; returns how many octets that was, and how it ended.
     fn write(&mut self, rt: &R) -> (usize, io::Result<()>) {
         if self.file.is_none()
             && let Err(error) = self.open(rt)

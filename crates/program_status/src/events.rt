@@ -74,7 +74,7 @@ impl<'a, R: Wait + Files> Events<'a, R> {
         }
     }
 
-    /// Opens the log anew, if there is one; answers whether that worked.
+    /// Opens the log anew, if there is one; returns whether that worked.
     pub fn reopen_log(&mut self, rt: &R) -> Option<bool> {
         match &mut self.log {
             Some(log) => Some(log.reopen(rt)),

@@ -221,7 +221,7 @@ impl Depot {
         self.is_closed.load(Ordering::SeqCst)
     }
 
-    /// Waits until the store's thread has ended, for so many milliseconds at most; answers whether it has.
+    /// Waits until the store's thread has ended, for so many milliseconds at most; returns whether it has.
     pub fn wait_end<R: Wait + Clock>(&self, rt: &R, milliseconds: u64) -> bool {
         let until = moment(rt).saturating_add(milliseconds);
         let mut trays = self.trays.lock(rt);

@@ -36,7 +36,7 @@ impl Links {
         }
     }
 
-    /// Opens a link again; answers whether it was held.
+    /// Opens a link again; returns whether it was held.
     pub fn release(&self, place: usize) -> bool {
         match self.since.get(place) {
             Some(since) => since.swap(OPEN, Ordering::Relaxed) != OPEN,
@@ -65,7 +65,7 @@ impl Links {
     }
 
     /// Notes a reply of so many octets for the remote entity at this place, which is to leave at a moment of the runtime's
-    /// clock, in milliseconds; answers whether it may. In a second at most as many octets leave as the link's limit says, or a hundred
+    /// clock, in milliseconds; returns whether it may. In a second at most as many octets leave as the link's limit says, or a hundred
     /// replies where it has none; the first one always leaves.
     pub fn may_reply(&self, place: usize, octets: u64, now: u64) -> bool {
         match self.replies.get(place) {

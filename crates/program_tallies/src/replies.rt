@@ -69,7 +69,7 @@ impl Replies {
         self.limit.store(octets, Ordering::Relaxed);
     }
 
-    /// Notes a reply of so many octets that is to leave at a moment of the runtime's clock, in milliseconds; answers whether it
+    /// Notes a reply of so many octets that is to leave at a moment of the runtime's clock, in milliseconds; returns whether it
     /// may.
     pub(crate) fn may_leave(&self, octets: u64, now: u64) -> bool {
         let (cost, most) = match self.limit.load(Ordering::Relaxed) {

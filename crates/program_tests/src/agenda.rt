@@ -34,7 +34,7 @@ fn timers(rt: HostRuntime) -> Result<(), Fail> {
     Ok(())
 }
 
-// A file that couldn't be stored comes a second later, behind one that wasn't tried yet.
+// A file that couldn't be stored comes a second later, after one that wasn't tried yet.
 fn is_put_off(alloc: Global) -> Result<bool, AllocError> {
     let mut queue = StoreQueue::new(alloc, 2)?;
     let is_added = queue.add(7u32).is_ok() && queue.next(100) == Some(7);

@@ -31,7 +31,7 @@ fn tell_end<R: Wait>(rt: &R, desk: &Desk, end: End) {
     }
 }
 
-// The letters of what the main thread gets before a line is left, and behind it and two ends. No more is wanted of a
+// The letters of what the main thread gets before a line is left, and after it and two ends. No more is wanted of a
 // closed desk, and nobody waits at it.
 fn found<R: Wait>(rt: &R, desk: &Desk, first: End, second: End) -> ([u8; 4], bool) {
     let before = letter_of(desk.take_line(rt));

@@ -53,7 +53,7 @@ impl<'a> PduSender<'a> {
         is_at(self.peers.as_slice(), near_end_of(pdu), address)
     }
 
-    /// Sends a PDU to the entity at the other end; answers how many octets were sent.
+    /// Sends a PDU to the entity at the other end; returns how many octets were sent.
     pub fn send(&mut self, pdu: &Pdu) -> usize {
         self.send_as(pdu, None)
     }
@@ -86,7 +86,7 @@ impl<'a> PduSender<'a> {
         octets.unwrap_or(0)
     }
 
-    /// Sends the PDUs of a step, in order; answers how many octets were sent.
+    /// Sends the PDUs of a step, in order; returns how many octets were sent.
     pub fn send_done(&mut self, done: &Done) -> usize {
         let mut octets = 0usize;
         for pdu in done.pdus.as_slice() {

@@ -6,7 +6,7 @@ use std::os::fd::AsRawFd;
 // How many octets the receive buffer is asked to hold.
 const RECEIVE_BUFFER_OCTETS: i32 = 4_000_000;
 
-/// Asks the system for a receive buffer of `RECEIVE_BUFFER_OCTETS`; answers whether it took the request. The system may
+/// Asks the system for a receive buffer of `RECEIVE_BUFFER_OCTETS`; returns whether it took the request. The system may
 /// give less, up to its own limit, and the socket is used nevertheless.
 pub(crate) fn widen(socket: &UdpSocket) -> bool {
     let mut value = [0u8; 16];

@@ -6,6 +6,7 @@ ghost use Rattle.program_words.specs.Lines.{check_program, found_in, given_by};
 use crate::fault::WordsFault;
 use crate::options::{fault_of, flag, required};
 use clap::{ArgMatches, Command};
+use release::VERSION;
 use std::alloc::{AllocError, Global};
 
 /// Whether a command line asks for a check of the configuration: `--check` before the word `--`, after which names
@@ -37,7 +38,7 @@ pub(crate) fn command<'a>(alloc: Global) -> Result<Command<'a>, AllocError>
     ensures { IfOk result (λ command. app_of command ≡ check_program) }
 {
     let command = Command::new(alloc, "check")
-        .version("0.1")
+        .version(VERSION)
         .arg(required(alloc, "config"))?
         .arg(flag(alloc, "check"))?
         .arg(flag(alloc, "explain"))?;

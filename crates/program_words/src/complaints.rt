@@ -143,7 +143,7 @@ pub(crate) fn beside_complaint(
         return Some("--status-socket takes a path");
     }
     if control.is_none() {
-        return Some("--status-socket stands beside --control");
+        return Some("--status-socket needs --control");
     }
     if beside == control {
         return Some("--status-socket takes another path than --control");

@@ -19,4 +19,4 @@ pub use lanes::PeerLanes;
 pub use line::line_of;
 pub use putting::{PutWords, put_help, put_version, put_words};
 pub use rates::Rate;
-pub use serving::{SERVER_VERSION, ServerWords, server_help, server_version, server_words};
+pub use serving::{ServerWords, server_help, server_version, server_words};

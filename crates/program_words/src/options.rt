@@ -149,7 +149,7 @@ pub(crate) fn most_of(word: Option<&str>) -> Option<u64>
     }
 }
 
-/// The level that a word names: `Some(None)` without a word, `None` where the word is no level.
+/// The level that a word names: `Some(None)` without a word, `None` where the word isn't a level.
 pub(crate) fn level_of(word: Option<&str>) -> Option<Option<Level>>
     ensures { result ≡ level_of (option_map (λ word. word.now) word.entry) }
 {

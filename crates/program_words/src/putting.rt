@@ -9,6 +9,7 @@ use crate::options::{
 };
 use cfdp_types::{Class, EntityId};
 use clap::{Arg, ArgAction, ArgMatches, Command};
+use release::{VERSION, versioned};
 use std::alloc::{AllocError, Global};
 
 /// What a command line asks to put, and how.
@@ -72,7 +73,7 @@ pub fn put_help() -> &'static str {
 
 /// What `--version` of the program prints.
 pub fn put_version() -> &'static str {
-    "cfdp_put 0.1\n"
+    versioned!("cfdp_put ", "\n")
 }
 
 // A positional word.
@@ -88,7 +89,7 @@ pub(crate) fn command<'a>(alloc: Global) -> Result<Command<'a>, AllocError>
     ensures { IfOk result (λ command. app_of command ≡ put_program) }
 {
     let command = Command::new(alloc, "cfdp_put")
-        .version("0.1")
+        .version(VERSION)
         .arg(required(alloc, "config"))?
         .arg(required(alloc, "bind"))?
         .arg(required(alloc, "user"))?

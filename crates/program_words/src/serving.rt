@@ -10,6 +10,7 @@ use crate::parts::{flags_in, paths_in, values_in};
 use crate::rates::{Rate, rates_of};
 use clap::{ArgMatches, Command};
 use event_levels::Level;
+use release::{VERSION, versioned};
 use std::alloc::{AllocError, Global};
 
 /// What the server's command line asks for.
@@ -92,13 +93,13 @@ Usage: cfdp_server --config FILE --bind ADDR --folder DIR [--workers N] [--rate 
   --workers N     threads that take datagrams, 1 to 16 (default: 4)
   --rate N        octets a second to send for files, 1 to 1000000000 (default: no limit)
   --rate ID=N     the same for files to one remote entity; once for each entity
-  --follow        prints each user's indications as they are issued, between answers to commands
-  --control PATH  takes and answers commands at this socket, instead of standard input and output
-  --status-socket PATH  beside --control: answers `status`, `follow`, `outbox` and `journal` alone at this socket
+  --follow        prints each user's indications as they are issued, between replies to commands
+  --control PATH  takes commands at this socket and replies there, instead of standard input and output
+  --status-socket PATH  with --control: a second socket, which takes only `status`, `follow`, `outbox` and `journal`
   --log FILE      appends events to this file, one JSON object a line
   --numbers FILE  keeps in this file where the numbers of the next run begin
   --known-sources drops datagrams from addresses that the configuration doesn't have
-  --strict-sources drops these, and PDUs from another address than their entity's
+  --strict-sources drops these, and PDUs that come from another address than their entity's
   --hold          sends nothing to any remote entity until `release`
   --tree          slashes in a received file's name lead into folders
   --by-source     keeps each source's files in a folder of its ID
@@ -111,9 +112,9 @@ Usage: cfdp_server --config FILE --bind ADDR --folder DIR [--workers N] [--rate 
   --record DIR    keeps in this folder, which must exist, the script of each transaction that
                   failed: SOURCE.SEQ.script
   --record-all    keeps the script of each transaction
-  --record-most N keeps N scripts at most, 1 to 1000000 (default: 1000); the oldest ones go
+  --record-most N keeps at most N scripts, 1 to 1000000 (default: 1000), and deletes the oldest
   --abandon-full  abandons each transaction whose journal is full: it could not end by itself
-  --log-level LEVEL  appends only events from this level on: detail, info or warning; each has its level then
+  --log-level LEVEL  appends only events of this level and above: detail, info or warning; each then has its level
   --control-mode MODE  the permissions of the sockets: 0600 (default), 0660 for their group, 0666 for everyone
   --outbox FILE   keeps in this file what waits in the outbox and what is under way from there
   --log-commands  reports each command that changes something as an event, and who gave it
@@ -148,12 +149,9 @@ pub fn server_help() -> &'static str {
     HELP
 }
 
-/// The version of the server.
-pub const SERVER_VERSION: &str = "0.1";
-
 /// What `--version` of the server prints.
 pub fn server_version() -> &'static str {
-    "cfdp_server 0.1\n"
+    versioned!("cfdp_server ", "\n")
 }
 
 // The options of the server.
@@ -169,7 +167,7 @@ fn first_command<'a>(alloc: Global) -> Result<Command<'a>, AllocError>
     ensures { IfOk result (λ command. app_of command ≡ program_of (codes "cfdp_server") first_options) }
 {
     let command = Command::new(alloc, "cfdp_server")
-        .version("0.1")
+        .version(VERSION)
         .arg(required(alloc, "config"))?
         .arg(required(alloc, "bind"))?
         .arg(required(alloc, "folder"))?

@@ -3,6 +3,7 @@ ghost use Rattle.std.specs.Prelude.{◌≡◌, ◌++◌, OnOk, string_bytes};
 ghost use Rattle.script_replay.specs.Texts.{answer_text, route_text, taken_text};
 
 use answer_texts::{push_bundle, push_decode_fault, push_done, push_refusal, push_refused};
+use entity_routing::{WRONG_LANE_NAME, WRONG_LANE_NUMBER};
 use indications::Bundle;
 use lane_table::Done;
 use std::alloc::{AllocError, Global};
@@ -22,7 +23,7 @@ pub fn push_answer(
         Ok(done) => push_done(alloc, text, is_put, done),
         Err(EntityRefusal::Lane(refused)) => push_refused(alloc, text, refused),
         Err(EntityRefusal::Route(why)) => push_route_refusal(text, *why),
-        Err(EntityRefusal::WrongLane) => push_refusal(text, 26, "WrongLane"),
+        Err(EntityRefusal::WrongLane) => push_refusal(text, WRONG_LANE_NUMBER, WRONG_LANE_NAME),
     }
 }
 

@@ -1,19 +1,20 @@
 -- Meaning. What the server prints of an entity's answers.
-use Rattle.std.specs.Prelude.{Bool, List, ℕ, ◌++◌, if◌then◌else◌, codes, decimal}
+use Rattle.std.specs.Prelude.{Bool, List, ℕ, Option, ◌++◌, if◌then◌else◌, codes, decimal}
 use Rattle.answer_texts.specs.AnswerTexts.{opened_text, deposit_text, refusal_text, fault_line, refused_text}
+use Rattle.cfdp_types.specs.declared.key.Deposit.{Deposit}
+use Rattle.cfdp_types.specs.declared.key.TxnKey.{TxnKey}
 use Rattle.entity_parts.specs.Refusals.{number_of, name_of}
 use Rattle.entity_parts.specs.declared.refusal.EntityRefusal.{EntityRefusal}
 use Rattle.entity_parts.specs.declared.refusal.EntityRefusal.TheVariants as answer
 use Rattle.entity_routing.specs.declared.refusal.RouteRefusal.TheVariants as routes
-use Rattle.lane_table.specs.declared.done.Done.{Done}
 use Rattle.lane_traces.specs.declared.traced.Traced.{Traced}
 use Rattle.pdu_reading.specs.Fault.{fault_number}
 use Rattle.txn_events.specs.Refusal.{refusal_name, refusal_number}
 use Rattle.txn_events.specs.declared.refusal.Refusal.TheVariants.{NoMemory, TooLarge}
 
 -- the lines for what was taken: those of a script, but for the PDUs
-abbrev pub taken_text : Bool → Done → List ℕ
-taken_text is_put done = codes "ok\n" ++ (opened_text is_put done.key ++ deposit_text done.deposit)
+abbrev pub taken_text : Bool → TxnKey → Option Deposit → List ℕ
+taken_text is_put key deposit = codes "ok\n" ++ (opened_text is_put key ++ deposit_text deposit)
 
 -- the lines for what was refused: those of a script
 abbrev pub refusal_line : EntityRefusal → List ℕ

@@ -1,26 +1,31 @@
-//! What the server prints of an entity's answers: what a script prints, but for the PDUs, which are sent.
+//! What the server prints of an entity's answers: what a script prints, without the PDUs, which are sent.
 ghost use Rattle.std.specs.Prelude.{◌≡◌, ◌++◌, OnOk};
 ghost use Rattle.std.specs.String.{string_bytes};
 ghost use Rattle.server_answers.specs.Answers.{bad_command_line, no_memory_line, taken_text, too_large_line, refusal_line, traced_text};
 
 use answer_texts::{push_decode_fault, push_refusal, push_refused};
+use cfdp_types::{Deposit, TxnKey};
 use entity_routing::RouteRefusal;
-use lane_table::Done;
 use shared_entity::{EntityRefusal, Traced};
 use std::alloc::{AllocError, Global};
 use txn_events::Refusal;
 
-/// Adds the lines for what was taken, a Put or another.
-pub fn push_taken(text: &mut String, is_put: bool, done: &Done) -> Result<(), AllocError>
-    ensures { OnOk result (string_bytes text.new ≡ string_bytes text.old ++ taken_text is_put done.now) }
+/// Adds the lines for an event that a transaction took, a Put or another, with the file that it handed to the store, if it did.
+pub fn push_taken(
+    text: &mut String,
+    is_put: bool,
+    key: TxnKey,
+    deposit: Option<Deposit>,
+) -> Result<(), AllocError>
+    ensures { OnOk result (string_bytes text.new ≡ string_bytes text.old ++ taken_text is_put key deposit) }
 {
     text.push_str("ok\n")?;
     if is_put {
-        let source = done.key.source.0;
-        let seq = done.key.seq;
+        let source = key.source.0;
+        let seq = key.seq;
         writeln!(text, "txn {source} {seq}")?;
     }
-    if let Some(deposit) = done.deposit {
+    if let Some(deposit) = deposit {
         let stamp = deposit.stamp;
         writeln!(text, "deposit {stamp}")?;
     }
@@ -45,7 +50,7 @@ pub fn push_entity_refusal(
     }
 }
 
-/// Adds the line for what there was no memory for, and which changed nothing.
+/// Adds the line for a command for which memory ran out.
 pub fn push_no_memory(text: &mut String) -> Result<(), AllocError>
     ensures { OnOk result (string_bytes text.new ≡ string_bytes text.old ++ no_memory_line) }
 {
@@ -71,7 +76,7 @@ pub fn push_traced(text: &mut String, traced: Traced) -> Result<(), AllocError>
     }
 }
 
-/// Adds the answer to a line that is no command.
+/// Adds the reply to a line that isn't a command.
 pub fn push_bad_command(text: &mut String) -> Result<(), AllocError>
     ensures { OnOk result (string_bytes text.new ≡ string_bytes text.old ++ bad_command_line) }
 {

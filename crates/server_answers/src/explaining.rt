@@ -76,7 +76,7 @@ pub fn push_path_notes<R: Files>(
     }
 }
 
-// Adds a note that something is no folder, if it isn't.
+// Adds a note if a path isn't a folder.
 fn push_folder_note<R: Files>(
     rt: &R,
     alloc: Global,

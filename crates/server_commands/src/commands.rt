@@ -1,5 +1,6 @@
 //! What the server does at a command.
 use crate::following::Spell;
+use crate::outcome::{Declined, Outcome, Taken, push_outcome};
 use crate::skipping::Opened;
 use cfdp_types::{EntityId, Octets, PutFault, PutRequest, TxnKey};
 use disk::SystemDisk;
@@ -16,9 +17,7 @@ use program_start::ProgramFault;
 use program_station::Station;
 use program_storing::Depot;
 use program_tallies::{RefusalKind, Tallies};
-use server_answers::{
-    push_bad_command, push_entity_refusal, push_no_memory, push_taken, push_traced,
-};
+use server_answers::{push_bad_command, push_entity_refusal, push_no_memory, push_traced};
 use server_lanes::{Begun, Readiness};
 use server_lines::{Command, PutCommand, Tuning};
 use server_reports::Audience;
@@ -29,12 +28,11 @@ use std::alloc::{AllocError, Global};
 use std::rt::Files;
 use std::sync::Wait;
 use std::time::Clock;
-use txn_events::Refusal;
 
 /// The file of an outbox, in its folder.
 pub type OutboxFolder<R> = HeldOutbox<SystemDisk<R>>;
 
-/// What the main thread of a server has, but for where answers are printed.
+/// What the main thread of a server has, except where replies are printed.
 #[derive(Drop)]
 pub struct Server<'a, N: Names, R: Files + AllocGlobal + Copy + Drop> {
     pub rt: &'a R,
@@ -79,71 +77,21 @@ pub enum Next {
     GoesOn,
     /// The client that asked follows from then on, after the last events, so many at most; from a level on, if one is asked for.
     Follows(Asker, u64, Option<Level>),
-    /// The answer comes later.
+    /// The reply comes later.
     Later,
     Quits,
 }
 
-/// What became of a file that was to be put.
-#[derive(Clone, Copy, Debug, PartialEq, Eq)]
-pub(crate) enum PutEnd {
-    /// It opened a transaction.
-    Opened,
-    /// It can be tried again: memory ran out, the user's queue was full, or a file that is kept over restarts can't be written.
-    Passing,
-    /// The lane has no number left.
-    Exhausted,
-    Refused,
-}
-
-// What became of what was asked for.
-#[derive(Clone, Copy, Debug, PartialEq, Eq)]
-enum Asked {
-    Taken(TxnKey),
-    Refused(PutEnd),
-}
-
-// What becomes of a Put that the entity refused.
-fn end_of(refusal: &EntityRefusal) -> PutEnd {
-    if refusal.is_passing() {
-        return PutEnd::Passing;
-    }
-    match refusal {
-        EntityRefusal::Lane(refused) if refused.why == Refusal::SeqExhausted => PutEnd::Exhausted,
-        _ => PutEnd::Refused,
-    }
-}
-
-// After an answer the server goes on.
+// After a reply the server goes on.
 fn goes_on(written: Result<(), AllocError>) -> Result<Next, AllocError> {
     written?;
     Ok(Next::GoesOn)
 }
 
-// Answers `ok`, and says what comes next.
+// Replies `ok`, and says what comes next.
 fn answered(text: &mut String, next: Next) -> Result<Next, AllocError> {
     text.push_str("ok\n")?;
     Ok(next)
-}
-
-// What became of a file, once that is answered.
-fn ends(written: Result<(), AllocError>, end: PutEnd) -> Result<PutEnd, AllocError> {
-    written?;
-    Ok(end)
-}
-
-// That something was refused, once that is answered.
-fn refused(written: Result<(), AllocError>, end: PutEnd) -> Result<Asked, AllocError> {
-    written?;
-    Ok(Asked::Refused(end))
-}
-
-// That something is answered, whatever became of it.
-fn done<T: Copy>(end: Result<T, AllocError>) -> Result<(), AllocError> {
-    match end {
-        Ok(_) => Ok(()),
-        Err(error) => Err(error),
-    }
 }
 
 // Where a Put goes.
@@ -216,7 +164,7 @@ fn trace<N: Names, R: Wait + Copy>(
 }
 
 impl<'a, N: Names, R: Wait + Clock + Files + AllocGlobal + Copy + Drop> Server<'a, N, R> {
-    /// Does what a line says, and adds its answer.
+    /// Does what a line says, and adds the reply.
     pub fn obey(
         &mut self,
         said: Said,
@@ -225,14 +173,17 @@ impl<'a, N: Names, R: Wait + Clock + Files + AllocGlobal + Copy + Drop> Server<'
     ) -> Result<Next, AllocError> {
         match said {
             Said::Command(command) => self.obey_command(command, asker, text),
-            Said::Put(put, file) => goes_on(self.put(&put, file, text)),
+            Said::Put(put, file) => {
+                let outcome = self.put(&put, file, None);
+                goes_on(push_outcome(self.alloc, text, &outcome))
+            }
             Said::Send(send, size) => goes_on(self.queue_known(send, size, text)),
             Said::Nothing => goes_on(push_bad_command(text)),
             Said::NoMemory => goes_on(push_no_memory(text)),
         }
     }
 
-    // Does what a command says. Clients alone follow, and are answered before the server ends.
+    // Does what a command says. Only clients follow, and get a reply before the server ends.
     fn obey_command(
         &mut self,
         command: Command,
@@ -261,7 +212,10 @@ impl<'a, N: Names, R: Wait + Clock + Files + AllocGlobal + Copy + Drop> Server<'
             Command::Status => self.answer_status(text),
             Command::Take(user) => self.audience.take(user, text),
             Command::Trace(key) => trace(self.rt, self.alloc, self.station.entity(), key, text),
-            Command::Ask(user, request) => done(self.ask_for(user, request, text)),
+            Command::Ask(user, request) => {
+                let outcome = self.ask_for(user, request);
+                push_outcome(self.alloc, text, &outcome)
+            }
             Command::Send(send) => self.queue(send, text),
             Command::Outbox => self.answer_outbox(text),
             Command::Drop(number) => self.withdraw(number, text),
@@ -274,28 +228,18 @@ impl<'a, N: Names, R: Wait + Clock + Files + AllocGlobal + Copy + Drop> Server<'
         }
     }
 
-    // Puts a file that was read, or answers why it couldn't be.
-    fn put(
+    /// Puts a file that was read, `from` the outbox where it comes from there.
+    pub(crate) fn put(
         &mut self,
         put: &PutCommand,
         file: Result<Octets, ProgramFault>,
-        text: &mut String,
-    ) -> Result<(), AllocError> {
-        match file {
-            Ok(file) => done(self.put_file(put, file, None, text)),
-            Err(ProgramFault::NoMemory) => push_no_memory(text),
-            Err(_) => text.push_str("read fault\n"),
-        }
-    }
-
-    /// Puts a file, `from` the outbox where it comes from there.
-    pub(crate) fn put_file(
-        &mut self,
-        put: &PutCommand,
-        file: Octets,
         from: Option<&FromOutbox>,
-        text: &mut String,
-    ) -> Result<PutEnd, AllocError> {
+    ) -> Outcome {
+        let file = match file {
+            Ok(file) => file,
+            Err(ProgramFault::NoMemory) => return Err(Declined::NoMemory),
+            Err(_) => return Err(Declined::Unreadable),
+        };
         let queued = from.map(|from| from.number);
         let size = file.as_slice().len() as u64;
         let asked = match self.station.reserve() {
@@ -303,31 +247,27 @@ impl<'a, N: Names, R: Wait + Clock + Files + AllocGlobal + Copy + Drop> Server<'
             Err(AllocError) => Err(PutFault::NoMemory),
         };
         match asked {
-            Ok(request) => self.put_covered(put, size, queued, request, text),
-            Err(PutFault::NoMemory) => ends(push_no_memory(text), PutEnd::Passing),
-            Err(_) => ends(push_bad_command(text), PutEnd::Refused),
+            Ok(request) => self.put_covered(put, size, queued, request),
+            Err(PutFault::NoMemory) => Err(Declined::NoMemory),
+            Err(_) => Err(Declined::Malformed),
         }
     }
 
-    // Puts, once the file of numbers covers the Put's number.
+    // Puts, once the file of numbers covers the Put's number, and notes and reports a Put that was taken.
     fn put_covered(
         &mut self,
         put: &PutCommand,
         size: u64,
         queued: Option<u64>,
         request: Request,
-        text: &mut String,
-    ) -> Result<PutEnd, AllocError> {
+    ) -> Outcome {
         if !self.covers() {
-            let end = if queued.is_some() && self.held.is_some() {
-                PutEnd::Passing
-            } else {
-                PutEnd::Refused
-            };
-            return ends(text.push_str("numbers fault\n"), end);
+            return Err(Declined::Uncovered);
         }
-        let asked = self.ask(put.user, request, text);
-        self.note_put(put, size, queued, asked)
+        let taken = self.ask(put.user, request)?;
+        let key = taken.key;
+        self.note_put(put, size, queued, key);
+        Ok(taken)
     }
 
     /// Whether the file of numbers covers the next Put's number, where there is such a file.
@@ -338,91 +278,66 @@ impl<'a, N: Names, R: Wait + Clock + Files + AllocGlobal + Copy + Drop> Server<'
         }
     }
 
-    // Notes and reports a Put that was taken.
-    fn note_put(
-        &mut self,
-        put: &PutCommand,
-        size: u64,
-        queued: Option<u64>,
-        asked: Result<Asked, AllocError>,
-    ) -> Result<PutEnd, AllocError> {
-        match asked? {
-            Asked::Taken(key) => {
-                if let Some(numbers) = &mut self.numbers {
-                    numbers.note_put(key);
-                }
-                self.readiness.note(put.destination, key.seq);
-                if let Some(number) = queued {
-                    let (user, lane) = (put.user, put.lane);
-                    self.note_begun(Place { user, lane }, key, number);
-                }
-                self.audience.reports.put(put, size, queued, key);
-                self.count_put(put, key, size);
-                Ok(PutEnd::Opened)
-            }
-            Asked::Refused(end) => Ok(end),
+    // Notes and reports a Put that opened a transaction.
+    fn note_put(&mut self, put: &PutCommand, size: u64, queued: Option<u64>, key: TxnKey) {
+        if let Some(numbers) = &mut self.numbers {
+            numbers.note_put(key);
         }
+        self.readiness.note(put.destination, key.seq);
+        if let Some(number) = queued {
+            let (user, lane) = (put.user, put.lane);
+            self.note_begun(Place { user, lane }, key, number);
+        }
+        self.audience.reports.put(put, size, queued, key);
+        self.count_put(put, key, size);
     }
 
     // Asks the entity for something, in a user's name. Nothing stays parked of a transaction that is given up.
-    fn ask_for(
-        &mut self,
-        user: usize,
-        request: Request,
-        text: &mut String,
-    ) -> Result<Asked, AllocError> {
+    fn ask_for(&mut self, user: usize, request: Request) -> Outcome {
         let given_up = given_up_by(&request);
-        let asked = self.ask(user, request, text);
+        let outcome = self.ask(user, request);
         if let Some(key) = given_up {
             self.station.forget_parked(user, key);
         }
-        asked
+        outcome
     }
 
     // Asks the entity for something, in a user's name.
-    fn ask(
-        &mut self,
-        user: usize,
-        request: Request,
-        text: &mut String,
-    ) -> Result<Asked, AllocError> {
+    fn ask(&mut self, user: usize, request: Request) -> Outcome {
         let entity = self.station.entity();
         if !entity.may_request(user, &request) {
-            return refused(push_bad_command(text), PutEnd::Refused);
+            return Err(Declined::Malformed);
         }
         let destination = destination_of(&request);
         let refusal = match entity.request(self.rt, &NoGate, user, request) {
-            Ok(Ok(done)) => return self.go_on(done, destination, text),
+            Ok(Ok(done)) => return Ok(self.go_on(done, destination)),
             Ok(Err(refused)) => EntityRefusal::Lane(refused),
             Err(refusal) => refusal,
         };
-        refused(self.refuse(&refusal, text), end_of(&refusal))
+        self.note_refusal(&refusal);
+        Err(Declined::Refused(refusal))
     }
 
-    // Answers what the entity took, and carries out what the step gives. A Put has a destination.
-    fn go_on(
-        &mut self,
-        done: Done,
-        destination: Option<EntityId>,
-        text: &mut String,
-    ) -> Result<Asked, AllocError> {
-        let key = done.key;
+    // Carries out what a step gives that the entity took. A Put has a destination.
+    fn go_on(&mut self, done: Done, destination: Option<EntityId>) -> Taken {
+        let (key, deposit) = (done.key, done.deposit);
         if let Some(destination) = destination {
             self.station.begin(key, destination);
         }
-        let pushed = push_taken(text, destination.is_some(), &done);
         self.station.settle_own(done);
-        pushed?;
-        Ok(Asked::Taken(key))
+        Taken {
+            key,
+            is_put: destination.is_some(),
+            deposit,
+        }
     }
 
-    // Notes and answers what the entity refused.
-    fn refuse(&mut self, refusal: &EntityRefusal, text: &mut String) -> Result<(), AllocError> {
+    // Notes what the entity refused, and sends the PDU with which the refusal answers, if there is one.
+    fn note_refusal(&mut self, refusal: &EntityRefusal) {
         let at = wall_moment(self.rt);
         self.tallies
             .ledger
             .note(self.rt, RefusalKind::of(refusal), at, None, &[]);
         self.station.send_echo(refusal);
-        push_entity_refusal(self.alloc, text, refusal)
     }
 }

@@ -29,7 +29,7 @@ impl<'a, N: Names, R: Wait + Clock + Files + AllocGlobal + Copy + Drop> Server<'
         }
     }
 
-    /// Reports a command by its words, if there are any, with its answer, and why its file can't be read, where the answer is that.
+    /// Reports a command by its words, if there are any, with the reply, and why its file can't be read, where the reply says that.
     pub fn report_command(
         &mut self,
         words: &[u8],

@@ -9,6 +9,7 @@ mod given;
 mod links;
 mod outbox;
 mod outbox_notes;
+mod outcome;
 mod recordings;
 mod showing;
 mod skipping;

@@ -11,7 +11,7 @@ use std::rt::Files;
 use std::sync::Wait;
 use std::time::Clock;
 
-// The answer where the configuration has no entity with an ID.
+// The reply where the configuration has no entity with an ID.
 const UNKNOWN: &str = "refused UnknownRemote\n";
 
 impl<'a, N: Names, R: Wait + Clock + Files + AllocGlobal + Copy + Drop> Server<'a, N, R> {

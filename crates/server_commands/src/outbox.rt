@@ -1,5 +1,6 @@
 //! What the server does about files that wait.
-use crate::commands::{FromOutbox, PutEnd, Server};
+use crate::commands::{FromOutbox, Server};
+use crate::outcome::{Declined, Outcome, push_declined};
 use cfdp_types::Octets;
 use cfdp_types::limits::FILE_OCTETS;
 use command_words::send_words;
@@ -17,9 +18,6 @@ use std::alloc::AllocError;
 use std::rt::Files;
 use std::sync::Wait;
 use std::time::Clock;
-
-// Room for the answer to a Put.
-const ANSWER_OCTETS: usize = 1_024;
 
 impl<'a, N: Names, R: Wait + Clock + Files + AllocGlobal + Copy + Drop> Server<'a, N, R> {
     /// A file waits from now on.
@@ -71,7 +69,7 @@ impl<'a, N: Names, R: Wait + Clock + Files + AllocGlobal + Copy + Drop> Server<'
         }
     }
 
-    /// Answers with a line for each file that waits, or that there was no memory for them.
+    /// Replies with a line for each file that waits, or that memory ran out.
     pub(crate) fn answer_outbox(&mut self, text: &mut String) -> Result<(), AllocError> {
         let config = self.station.entity().config();
         if push_outbox(self.alloc, text, config, &self.outgoing).is_err() {
@@ -81,7 +79,7 @@ impl<'a, N: Names, R: Wait + Clock + Files + AllocGlobal + Copy + Drop> Server<'
         Ok(())
     }
 
-    /// The file with a number waits no more.
+    /// Takes the file with a number out of the outbox.
     pub(crate) fn withdraw(&mut self, number: u64, text: &mut String) -> Result<(), AllocError> {
         let withdrawn = match &mut self.held {
             Some(held) => held.drop_file(&mut self.outgoing, number),
@@ -100,7 +98,7 @@ impl<'a, N: Names, R: Wait + Clock + Files + AllocGlobal + Copy + Drop> Server<'
 
     /// Puts the file of the outbox that was read, or has that read whose turn it is, if a lane of its user can take it, or else
     /// uses up numbers that lag; whether it did any of these.
-    pub(crate) fn start_queued(&mut self, now: u64) -> Result<bool, AllocError> {
+    pub(crate) fn start_queued(&mut self, now: u64) -> bool {
         if self.station.take_ended() {
             self.outgoing.try_from(now);
             self.begun.look_again(true);
@@ -111,7 +109,7 @@ impl<'a, N: Names, R: Wait + Clock + Files + AllocGlobal + Copy + Drop> Server<'
         }
         self.abandon_opened();
         if !self.outgoing.is_due(now) {
-            return Ok(false);
+            return false;
         }
         self.look_at_lanes(now);
         self.readiness
@@ -119,7 +117,7 @@ impl<'a, N: Names, R: Wait + Clock + Files + AllocGlobal + Copy + Drop> Server<'
         let has_skipped = self.skip_some(now);
         let has_begun = self.read_next(now) || has_skipped;
         self.outgoing.try_from(self.readiness.end_of_rest(now));
-        Ok(has_begun)
+        has_begun
     }
 
     /// Looks at all sending lanes.
@@ -146,69 +144,57 @@ impl<'a, N: Names, R: Wait + Clock + Files + AllocGlobal + Copy + Drop> Server<'
     }
 
     // Puts the file of the outbox that is being read, once it was read. Where it can't be put yet, it comes back.
-    fn put_read(&mut self, now: u64) -> Result<bool, AllocError> {
+    fn put_read(&mut self, now: u64) -> bool {
         let Some(file) = self.desk.take_file(self.rt) else {
-            return Ok(false);
+            return false;
         };
         let unread = self.unread_from_outbox(&file);
-        let mut answer = String::new(self.alloc);
-        match self.put_queued(file, now, &mut answer)? {
-            PutEnd::Passing => self.outgoing.give_back(now),
-            PutEnd::Opened => drop(self.outgoing.finish()),
-            PutEnd::Exhausted | PutEnd::Refused => { self.fail_read(answer.as_str(), unread, now) }
+        match self.put_queued(file, now) {
+            Some(Ok(_)) => drop(self.outgoing.finish()),
+            Some(Err(declined)) => self.leave_unsent(&declined, unread, now),
+            None => self.outgoing.give_back(now),
         }
-        Ok(true)
+        true
     }
 
-    // The file that was read is not put: its answer says why.
-    fn fail_read(&mut self, answer: &str, unread: Option<Unread>, now: u64) {
-        if let Some(waiting) = self.outgoing.finish() {
-            self.leave_outbox(waiting.number, Way::Dropped, now);
-            let why = answer.lines().next().unwrap_or("");
-            self.audience.reports.fail(&waiting, why, unread);
-        }
-    }
-
-    // Puts the file of the outbox that was read, unless it was withdrawn meanwhile.
-    fn put_queued(
-        &mut self,
-        file: Result<Octets, ProgramFault>,
-        now: u64,
-        answer: &mut String,
-    ) -> Result<PutEnd, AllocError> {
+    // Puts the file of the outbox that was read into the lane of its user whose number goes to its entity next. None where it was
+    // withdrawn meanwhile, its link is held, no such lane is idle, or memory ran out.
+    fn put_queued(&mut self, file: Result<Octets, ProgramFault>, now: u64) -> Option<Outcome> {
         let Some((mut put, from)) = put_of(&self.outgoing) else {
-            return Ok(PutEnd::Passing);
+            return None;
         };
-        if self.station.is_held(put.destination) || answer.try_reserve(ANSWER_OCTETS).is_err() {
-            return Ok(PutEnd::Passing);
+        if self.station.is_held(put.destination) {
+            return None;
         }
-        match file {
-            Ok(file) => {
-                self.look_at_lanes(now);
-                self.put_in_lane(&mut put, file, &from, answer)
-            }
-            Err(ProgramFault::NoMemory) => Ok(PutEnd::Passing),
-            Err(_) => {
-                answer.push_str("read fault\n")?;
-                Ok(PutEnd::Refused)
-            }
+        if file.is_ok() {
+            self.look_at_lanes(now);
+            put.lane = self.readiness.lane_for(put.user, put.destination)?;
+        }
+        Some(self.put(&put, file, Some(&from)))
+    }
+
+    // The file that was read leaves the outbox unsent, which is reported, or comes back where that may change.
+    fn leave_unsent(&mut self, declined: &Declined, unread: Option<Unread>, now: u64) {
+        let mut answer = String::new(self.alloc);
+        let is_told = push_declined(self.alloc, &mut answer, declined).is_ok();
+        if !is_told || self.may_pass(declined) {
+            self.outgoing.give_back(now);
+        } else if let Some(waiting) = self.outgoing.finish() {
+            self.leave_outbox(waiting.number, Way::Dropped, now);
+            self.audience
+                .reports
+                .fail(&waiting, answer.as_str(), unread);
         }
     }
 
-    // Puts a file into the lane of its user whose number goes to its entity next, by the lanes as they were looked at last.
-    fn put_in_lane(
-        &mut self,
-        put: &mut PutCommand,
-        file: Octets,
-        from: &FromOutbox,
-        answer: &mut String,
-    ) -> Result<PutEnd, AllocError> {
-        match self.readiness.lane_for(put.user, put.destination) {
-            Some(lane) => {
-                put.lane = lane;
-                self.put_file(put, file, Some(from), answer)
-            }
-            None => Ok(PutEnd::Passing),
+    // Whether a file of the outbox may be taken later: memory ran out, its user's queue was full, or the file of numbers can't be
+    // written where the outbox is kept over restarts.
+    fn may_pass(&self, declined: &Declined) -> bool {
+        match declined {
+            Declined::NoMemory => true,
+            Declined::Uncovered => self.held.is_some(),
+            Declined::Refused(refusal) => refusal.is_passing(),
+            Declined::Malformed | Declined::Unreadable => false,
         }
     }
 }

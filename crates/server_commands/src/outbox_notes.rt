@@ -80,7 +80,7 @@ impl<'a, N: Names, R: Wait + Clock + Files + AllocGlobal + Copy + Drop> Server<'
     }
 }
 
-// Whether a lane runs a transaction no more.
+// Whether a lane no longer runs a transaction.
 fn has_ended(glance: &Option<Glance>, key: TxnKey) -> bool {
     match glance {
         Some(glance) => glance.has_ended || glance.key != key,

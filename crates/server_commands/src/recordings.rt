@@ -18,7 +18,7 @@ impl<'a, N: Names, R: Wait + Clock + Files + AllocGlobal + Copy + Drop> Server<'
             .record_ended(self.rt, self.alloc, entity);
     }
 
-    /// Has a transaction recorded for who asks, or answers why that can't be.
+    /// Has a transaction recorded for who asks, or replies why that can't be.
     pub(crate) fn record_for(
         &mut self,
         key: TxnKey,
@@ -38,7 +38,7 @@ impl<'a, N: Names, R: Wait + Clock + Files + AllocGlobal + Copy + Drop> Server<'
         Ok(Next::Later)
     }
 
-    /// Whether a recording is to be printed before any other answer; adds its next piece, once that is there.
+    /// Whether a recording is to be printed before any other reply; adds its next piece, once that is there.
     pub fn print_recording(&mut self, text: &mut String) -> Result<bool, AllocError> {
         self.audience.watched.print_recording(self.rt, text)
     }

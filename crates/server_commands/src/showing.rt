@@ -4,7 +4,7 @@ use crate::counting::last_store;
 use program_desk::{moment, wall_moment};
 use program_status::{Shown, push_status};
 use program_storing::{DepotReport, Storing};
-use program_words::SERVER_VERSION;
+use release::VERSION;
 use server_answers::push_no_memory;
 use server_lanes::hints_of;
 use shared_lanes::Names;
@@ -16,7 +16,7 @@ use std::time::Clock;
 use user_queues::UserPort;
 
 impl<'a, N: Names, R: Wait + Clock + Files + AllocGlobal + Copy + Drop> Server<'a, N, R> {
-    /// Answers with the lines of a status, or that there was no memory for them.
+    /// Replies with the lines of a status, or that memory ran out.
     pub(crate) fn answer_status(&mut self, text: &mut String) -> Result<(), AllocError> {
         if self.status(text).is_err() {
             text.clear();
@@ -47,7 +47,7 @@ impl<'a, N: Names, R: Wait + Clock + Files + AllocGlobal + Copy + Drop> Server<'
         let config = self.station.entity().config();
         let hints = hints_of(self.alloc, config, self.readiness.peers())?;
         let shown = Shown {
-            version: SERVER_VERSION,
+            version: VERSION,
             started: self.started,
             now: Moment(wall_moment(self.rt)),
             clock: moment(self.rt),

@@ -4,7 +4,6 @@ use program_desk::moment;
 use program_station::REST_MS;
 use program_storing::StoredNote;
 use shared_lanes::Names;
-use std::alloc::AllocError;
 use std::rt::Files;
 use std::sync::Wait;
 use std::time::Clock;
@@ -22,24 +21,24 @@ const LONGEST_SLEEP_MS: u64 = 60_000;
 const LONGEST_SLEEP_WITH_EVENTS_MS: u64 = 1_000;
 
 impl<'a, N: Names, R: Wait + Clock + Files + AllocGlobal + Copy + Drop> Server<'a, N, R> {
-    /// Notes what steps have left at the desk. Answers whether there was anything.
+    /// Notes what steps have left at the desk. Returns whether there was anything.
     pub fn settle(&mut self) -> bool {
         self.station.settle_left(self.desk, &mut self.steps)
     }
 
-    /// Goes on with files of the outbox, timers and PDUs of files, notes which files were stored, and lets events leave. Answers
+    /// Goes on with files of the outbox, timers and PDUs of files, notes which files were stored, and lets events leave. Returns
     /// whether there was any work.
-    pub fn turn(&mut self, now: u64) -> Result<bool, AllocError> {
+    pub fn turn(&mut self, now: u64) -> bool {
         self.record_ended();
         self.settle_counts();
         self.end_windows(now);
-        let has_started = self.start_queued(now)?;
+        let has_started = self.start_queued(now);
         let has_noted = self.settle_outbox(now);
         let has_worked = self.station.turn(now);
         self.abandon_full();
         let has_stored = self.report_stored();
         self.audience.reports.end_turn(now);
-        Ok(has_started || has_noted || has_worked || has_stored)
+        has_started || has_noted || has_worked || has_stored
     }
 
     /// Sleeps until something comes, or until there is work without that: soon, where users' bundles wait for a client.
@@ -74,7 +73,7 @@ impl<'a, N: Names, R: Wait + Clock + Files + AllocGlobal + Copy + Drop> Server<'
         }
     }
 
-    // Reports what became of files that were stored since; answers whether there were any.
+    // Reports what became of files that were stored since; returns whether there were any.
     fn report_stored(&mut self) -> bool {
         let mut has_stored = false;
         for _ in 0..STORED {

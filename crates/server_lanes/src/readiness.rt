@@ -133,7 +133,7 @@ impl Readiness {
         }
     }
 
-    /// Notes that a lane used up a number, so that it doesn't rest behind it.
+    /// Notes that a lane used up a number, so that it doesn't rest after it.
     pub fn note_skipped(&mut self, user: usize, lane: usize, number: u64) {
         let index = self.index_of(user, lane);
         if let Some(ended) = self.ended.get_mut(index) {
@@ -144,7 +144,7 @@ impl Readiness {
         }
     }
 
-    /// The first moment behind `now` at which a lane rests no more, or the greatest of 64 bits.
+    /// The first moment after `now` at which a lane no longer rests, or the greatest of 64 bits.
     pub fn end_of_rest(&self, now: u64) -> u64 {
         self.ended.iter().fold(u64::MAX, |soonest, ended| {
             if ended.until > now {
@@ -217,7 +217,7 @@ impl Readiness {
         }
     }
 
-    // Whether a lane rests behind its last transaction, whose end is noted.
+    // Whether a lane rests after its last transaction, whose end is noted.
     fn rests(&mut self, index: usize, glance: &Glance, now: u64) -> bool {
         let Some(ended) = self.ended.get_mut(index) else {
             return false;
@@ -248,7 +248,7 @@ impl Readiness {
         }
     }
 
-    // The number that a lane's next transaction gets, behind its last one.
+    // The number that a lane's next transaction gets, after its last one.
     fn next_number(&self, user: usize, lane: usize, last: Option<u64>) -> Option<u64> {
         if self.numbers.users == 0 {
             return None;
@@ -394,7 +394,7 @@ impl Readiness {
     }
 }
 
-// The transaction that a lane runs, by a glance at its last one. One behind which the lane rests counts.
+// The transaction that a lane runs, by a glance at its last one. One after which the lane rests counts.
 fn running_of(glance: &Glance, rests: bool) -> Option<Running> {
     if glance.has_ended && !rests {
         return None;

@@ -1,4 +1,4 @@
-//! What stands behind the operands of a send: closure, a turn before others, another source name.
+//! What follows the operands of a send: closure, a turn before others, another source name.
 ghost use Rattle.std.specs.Prelude.{◌≡◌, IfOk};
 ghost use Rattle.server_lines.specs.Commands.{after_closure, after_urgent, name_from, options, options_of, urgent_from};
 

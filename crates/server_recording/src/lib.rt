@@ -6,5 +6,5 @@ mod recorder;
 mod recording;
 
 pub use files::{FolderStoring, ServerFiles};
-pub use recorder::Recorder;
+pub use recorder::{Recorder, Ties};
 pub use recording::{Book, Watched};

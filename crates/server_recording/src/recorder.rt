@@ -9,6 +9,7 @@ use program_recorder::{Facts, Keeper, Recording, first_of, piece_length, recordi
 use program_seats::{Asker, Seats};
 use program_start::{ProgramFault, load_file};
 use program_words::ServerWords;
+use release::versioned;
 use server_answers::push_no_memory;
 use std::alloc::Global;
 use std::rt::Files;
@@ -16,6 +17,16 @@ use std::str;
 use std::sync::Wait;
 use std::time::Clock;
 use txn_events::Event;
+
+/// What a recorder has to do with: its entity's configuration, the book in which it finds what to record, and the desk and the seats
+/// that it delivers to.
+#[derive(Clone, Copy)]
+pub struct Ties<'x> {
+    pub config: &'x Config,
+    pub book: &'x Book,
+    pub desk: &'x Desk,
+    pub seats: Option<&'x Seats>,
+}
 
 /// The thread that records.
 #[derive(Drop)]
@@ -52,17 +63,20 @@ enum Way {
 }
 
 impl<'x, R: Files, F> Recorder<'x, R, F> {
-    /// A recorder for an entity with a configuration, whose file it reads.
+    /// A recorder for an entity with the configuration whose file the words name; it reads that file.
     pub fn new(
         rt: &'x R,
         alloc: Global,
         files: &'x F,
         words: &ServerWords<'_>,
-        config: &'x Config,
-        book: &'x Book,
-        desk: &'x Desk,
-        seats: Option<&'x Seats>,
+        ties: Ties<'x>,
     ) -> Result<Recorder<'x, R, F>, ProgramFault> {
+        let Ties {
+            config,
+            book,
+            desk,
+            seats,
+        } = ties;
         let text = match load_file(rt, alloc, words.config) {
             Ok(text) => Some(text),
             Err(fault) if words.record.is_some() => return Err(fault),
@@ -223,7 +237,7 @@ impl Delivery {
     }
 }
 
-// Sends the next piece of a script, from a place on; answers how many octets it has.
+// Sends the next piece of a script, from a place on; returns how many octets it has.
 fn send_piece<R: Wait>(rt: &R, seats: &Seats, asker: Asker, script: &[u8], at: usize) -> usize {
     let rest = script.get(at..).unwrap_or(&[]);
     let count = piece_length(rest);
@@ -233,7 +247,7 @@ fn send_piece<R: Wait>(rt: &R, seats: &Seats, asker: Asker, script: &[u8], at: u
 }
 
 // The name and the version that recordings bear.
-const PROGRAM: &str = "cfdp_server 0.1";
+const PROGRAM: &str = versioned!("cfdp_server ", "");
 
 // The entity at the other end of a transaction.
 fn peer_of(job: &Job) -> EntityId {

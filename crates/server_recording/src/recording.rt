@@ -10,6 +10,8 @@ use program_words::ServerWords;
 use shared_entity::Entity;
 use shared_lanes::Names;
 use station_lines::Moment;
+use station_names::kind::RECORDER;
+use station_names::member::{FAILED, KEPT, KIND, MISSED};
 use std::alloc::{AllocError, Global};
 use std::collections::VecDeque;
 use std::mem;
@@ -190,7 +192,7 @@ impl Book {
         let failed = self.failed.load(Ordering::Relaxed);
         writeln!(
             text,
-            "{{\"kind\":\"recorder\",\"kept\":{kept},\"missed\":{missed},\"failed\":{failed}}}"
+            "{{\"{KIND}\":\"{RECORDER}\",\"{KEPT}\":{kept},\"{MISSED}\":{missed},\"{FAILED}\":{failed}}}"
         )
     }
 }
@@ -236,7 +238,7 @@ pub struct Watched<'a> {
     ended: Vec<Ended>,
     /// Transactions that were opened and abandoned to use up their numbers, and whose ends weren't seen yet. None is recorded.
     skipped: Vec<TxnKey>,
-    /// Up to which moment by the runtime's clock a recording is to be printed before any other answer, if one is.
+    /// Up to which moment by the runtime's clock a recording is to be printed before any other reply, if one is.
     awaits: Option<u64>,
 }
 
@@ -360,7 +362,7 @@ impl<'a> Watched<'a> {
         is_left
     }
 
-    /// Whether a recording is to be printed before any other answer; adds its next piece, once that is there. One that isn't made
+    /// Whether a recording is to be printed before any other reply; adds its next piece, once that is there. One that isn't made
     /// within ten seconds is refused.
     pub fn print_recording<R: Wait + Clock>(
         &mut self,

@@ -72,7 +72,7 @@ impl<'a, R: Wait + Clock + Files> Audience<'a, R> {
         }
     }
 
-    /// Takes and reports at most one bundle of each user, and prints it if that is wanted. Answers whether there was one.
+    /// Takes and reports at most one bundle of each user, and prints it if that is wanted. Returns whether there was one.
     pub fn receive_each(&mut self, text: &mut String) -> Result<bool, AllocError> {
         let mut has_received = false;
         for user in 0..self.config.users() {

@@ -10,7 +10,7 @@ use program_seats::Asker;
 use program_start::Unread;
 use program_status::{Events, LaneNotes};
 use program_tallies::Tallies;
-use program_words::SERVER_VERSION;
+use release::VERSION;
 use server_lines::PutCommand;
 use station_lines::{CommandEvent, LogStatus, Moment, PutEvent, SkippedEvent, UnsentEvent};
 use std::alloc::{AllocError, Global};
@@ -112,7 +112,7 @@ impl<'a, R: Wait + Clock + Files> Reports<'a, R> {
         }
     }
 
-    /// Opens the log anew, if there is one; answers whether that worked.
+    /// Opens the log anew, if there is one; returns whether that worked.
     pub fn reopen_log(&mut self) -> Option<bool> {
         match &mut self.events {
             Some(events) => events.reopen_log(self.rt),
@@ -124,7 +124,7 @@ impl<'a, R: Wait + Clock + Files> Reports<'a, R> {
     pub fn start(&mut self) {
         let at = self.now();
         if let Some(events) = &mut self.events {
-            events.start(at, self.config.entity().local, SERVER_VERSION);
+            events.start(at, self.config.entity().local, VERSION);
         }
     }
 
@@ -156,7 +156,7 @@ impl<'a, R: Wait + Clock + Files> Reports<'a, R> {
         }
     }
 
-    /// Reports a command, by its words as it was understood, with the first line of its answer, the seat of the client that
+    /// Reports a command, by its words as it was understood, with the first line of its reply, the seat of the client that
     /// gave it, if one did, and why its file can't be read, if that is to be said.
     pub fn command<'w>(
         &mut self,
@@ -168,7 +168,7 @@ impl<'a, R: Wait + Clock + Files> Reports<'a, R> {
         let at = self.now();
         let given = CommandEvent {
             words,
-            answer: answer.lines().next().unwrap_or(""),
+            answer: first_line(answer),
             seat,
             reason: words_of(unread),
         };
@@ -177,7 +177,8 @@ impl<'a, R: Wait + Clock + Files> Reports<'a, R> {
         }
     }
 
-    /// Reports a file of the outbox that was not sent, and why; also why it can't be read, if that is to be said.
+    /// Reports a file of the outbox that was not sent, and why, by the first line of `why`; also why it can't be read, if that is
+    /// to be said.
     pub fn fail(&mut self, waiting: &Waiting, why: &str, unread: Option<Unread>) {
         let at = self.now();
         let unsent = UnsentEvent {
@@ -185,7 +186,7 @@ impl<'a, R: Wait + Clock + Files> Reports<'a, R> {
             user: self.config.name_of(waiting.user).unwrap_or(""),
             destination: waiting.file.destination,
             file: waiting.file.source.as_slice(),
-            why,
+            why: first_line(why),
             reason: words_of(unread),
         };
         if let Some(events) = &mut self.events {
@@ -247,7 +248,7 @@ impl<'a, R: Wait + Clock + Files> Reports<'a, R> {
         }
     }
 
-    /// Notes and reports a bundle that a user received in this turn, and answers at which moment.
+    /// Notes and reports a bundle that a user received in this turn, and returns at which moment.
     pub fn receive(&mut self, bundle: &Bundle) -> Moment {
         let at = self.now_of_turn();
         self.notes.note(bundle, at);
@@ -320,4 +321,9 @@ fn words_of(unread: Option<Unread>) -> Option<&'static str> {
         Some(unread) => Some(unread.words()),
         None => None,
     }
+}
+
+// The first line of a reply.
+fn first_line(answer: &str) -> &str {
+    answer.lines().next().unwrap_or("")
 }

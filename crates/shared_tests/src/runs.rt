@@ -2,7 +2,7 @@
 ghost use Rattle.std.specs.Prelude.{◌≡◌, All};
 ghost use Rattle.shared_entity.specs.Opening.{AreQueuesFor};
 
-use crate::steps::Step;
+use crate::steps::{Step, Steps};
 use crate::workers::Shift;
 use crate::{apart, closing, crowd, steps, workers};
 use entity_config::{Config, read_config};
@@ -99,9 +99,10 @@ fn play_all<N: Names + Send + Sync, R: Threads + Wait + Copy + Send + Sync>(
     run: Run,
 ) -> Result<(), AllocError> {
     match run {
-        Run::Steps(fails_at, steps) => steps::take_steps(
-            rt, alloc, text, entity, ports, fails_at, steps,
-        ),
+        Run::Steps(fails_at, steps) => {
+            let taken = Steps { fails_at, steps };
+            steps::take_steps(rt, alloc, text, entity, ports, taken)
+        }
         Run::Closing => Ok(()),
         Run::Apart => apart::hold_back(rt, alloc, text, entity),
         Run::Crowd => crowd::crowd(rt, alloc, text, entity, ports),

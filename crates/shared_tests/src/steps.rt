@@ -33,6 +33,13 @@ pub(crate) enum Step {
     Finish,
 }
 
+/// Steps, and which of the store's calls fails.
+#[derive(Clone, Copy)]
+pub(crate) struct Steps<'a> {
+    pub(crate) fails_at: u64,
+    pub(crate) steps: &'a [Step],
+}
+
 /// Plays steps, and adds lines for each, and for what the store keeps.
 pub(crate) fn take_steps<N: Names, R: Wait + Copy>(
     rt: &R,
@@ -40,12 +47,11 @@ pub(crate) fn take_steps<N: Names, R: Wait + Copy>(
     text: &mut String,
     entity: &Entity<N, R>,
     ports: Vec<UserPort>,
-    fails_at: u64,
-    steps: &[Step],
+    taken: Steps<'_>,
 ) -> Result<(), AllocError> {
     let mut ports = ports;
-    let mut desk = Desk::new(alloc, fails_at);
-    for step in steps {
+    let mut desk = Desk::new(alloc, taken.fails_at);
+    for step in taken.steps {
         match *step {
             Step::Take => push_taken(rt, text, &mut ports)?,
             Step::Deposit(source, seq, stamp) => {

@@ -1,17 +1,11 @@
 //! Connects to a Unix socket within a time limit.
 use crate::fault::StationFault;
-use libc::net as c;
 use std::io;
 use std::io::ErrorKind;
 use std::net::Net;
-use std::os::fd::AsRawFd;
 use std::os::unix::net::UnixStream;
 use std::time::Duration;
-
-// The family of a Unix address, and how many octets its path may have.
-const UNIX: u16 = 1;
-
-const PATH_OCTETS: usize = 107;
+use unix_sockets::{connect_to, is_address};
 
 // How often an interrupted connect is made again, as when the program was stopped and continued.
 const INTERRUPTIONS: u32 = 8;
@@ -22,8 +16,7 @@ pub(crate) fn connect_socket<R: Net>(
     path: &str,
     limit: Duration,
 ) -> Result<UnixStream, StationFault> {
-    let path = path.as_bytes();
-    if path.is_empty() || path.len() > PATH_OCTETS || path.contains(&0) {
+    if !is_address(path) {
         return Err(StationFault::BadPath);
     }
     let socket = rt.unix_socket().map_err(|error| fault_of(&error))?;
@@ -32,18 +25,11 @@ pub(crate) fn connect_socket<R: Net>(
     stream
         .set_write_timeout(Some(limit.max(Duration::from_millis(1))))
         .map_err(|error| fault_of(&error))?;
-    let mut address = [0u8; 128];
-    address[..2].copy_from_slice(&UNIX.to_ne_bytes());
-    address[2..2 + path.len()].copy_from_slice(path);
-    let length = path.len() as u32 + 3;
     for _ in 0..INTERRUPTIONS {
-        // the call reads the first octets of the address, and changes none of the program's memory
-        if unsafe { c::connect(stream.as_raw_fd(), &address, length) } == 0 {
-            return Ok(stream);
-        }
-        let error = io::Error::from_raw_os_error(os::errno());
-        if error.kind() != ErrorKind::Interrupted {
-            return Err(fault_of_connect(&error));
+        match connect_to(&stream, path) {
+            Ok(()) => return Ok(stream),
+            Err(error) if error.kind() == ErrorKind::Interrupted => {}
+            Err(error) => return Err(fault_of_connect(&error)),
         }
     }
     Err(StationFault::NoServer)

@@ -5,6 +5,7 @@ ghost use Rattle.station_lines.specs.CountLines.{delivered_line, delivered_membe
 use crate::line::Line;
 use crate::status::{DeliveredStatus, EndedStatus, StoreStatus};
 use crate::status_lines::role_name;
+use station_names::{kind, member};
 use std::alloc::{AllocError, Global};
 
 /// Adds the line of the transactions that ended in one way.
@@ -20,11 +21,11 @@ pub fn push_ended(alloc: Global, text: &mut String, ended: &EndedStatus) -> Resu
 fn ended_members(line: &mut Line, ended: &EndedStatus) -> Result<(), AllocError>
     ensures { OnOk result (line.new ≡ line.old ++ ended_members ended.now) }
 {
-    line.text("kind", "ended")?;
-    line.text("role", role_name(ended.end))?;
-    line.number("class", u64::from(ended.class))?;
-    line.number("condition", u64::from(ended.condition))?;
-    line.number("count", ended.count)
+    line.text(member::KIND, kind::ENDED)?;
+    line.text(member::ROLE, role_name(ended.end))?;
+    line.number(member::CLASS, u64::from(ended.class))?;
+    line.number(member::CONDITION, u64::from(ended.condition))?;
+    line.number(member::COUNT, ended.count)
 }
 
 /// Adds the line of the files that came whole, in one role.
@@ -44,10 +45,10 @@ pub fn push_delivered(
 fn delivered_members(line: &mut Line, delivered: &DeliveredStatus) -> Result<(), AllocError>
     ensures { OnOk result (line.new ≡ line.old ++ delivered_members delivered.now) }
 {
-    line.text("kind", "delivered")?;
-    line.text("role", role_name(delivered.end))?;
-    line.number("files", delivered.files)?;
-    line.number("octets", delivered.octets)
+    line.text(member::KIND, kind::DELIVERED)?;
+    line.text(member::ROLE, role_name(delivered.end))?;
+    line.number(member::FILES, delivered.files)?;
+    line.number(member::OCTETS, delivered.octets)
 }
 
 /// Adds the line of the last file that was given to the store.
@@ -63,9 +64,9 @@ pub fn push_store(alloc: Global, text: &mut String, store: &StoreStatus) -> Resu
 fn store_members(line: &mut Line, store: &StoreStatus) -> Result<(), AllocError>
     ensures { OnOk result (line.new ≡ line.old ++ store_members store.now) }
 {
-    line.text("kind", "store")?;
-    line.number("source", store.source.0)?;
-    line.number("seq", store.seq)?;
-    line.moment("at", store.at)?;
-    line.number("microseconds", store.microseconds)
+    line.text(member::KIND, kind::STORE)?;
+    line.number(member::SOURCE, store.source.0)?;
+    line.number(member::SEQ, store.seq)?;
+    line.moment(member::AT, store.at)?;
+    line.number(member::MICROSECONDS, store.microseconds)
 }

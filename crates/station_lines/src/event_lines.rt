@@ -11,14 +11,15 @@ use crate::members::{
 use answer_texts::{indication_name, phase_name, status_name};
 use cfdp_types::{EntityId, FileStatus, Messages, Octets, TxnKey};
 use indications::Indication;
+use station_names::{kind, member};
 use std::alloc::{AllocError, Global};
 
 fn head_members(line: &mut Line, head: EventHead, kind: &str) -> Result<(), AllocError>
     ensures { OnOk result (line.new ≡ line.old ++ head_members head kind.now) }
 {
-    line.moment("at", head.at)?;
-    line.number("number", head.number)?;
-    line.text("kind", kind)
+    line.moment(member::AT, head.at)?;
+    line.number(member::NUMBER, head.number)?;
+    line.text(member::KIND, kind)
 }
 
 /// Adds the line of a server's start: its entity and its version.
@@ -33,9 +34,9 @@ pub fn push_start_event(
     ensures kept { OnErr result (string_bytes text.new ≡ string_bytes text.old) }
 {
     let mut line = Line::begin(alloc)?;
-    head_members(&mut line, head, "start")?;
-    line.number("id", id.0)?;
-    line.text("version", version)?;
+    head_members(&mut line, head, kind::START)?;
+    line.number(member::ID, id.0)?;
+    line.text(member::VERSION, version)?;
     line.end(text)
 }
 
@@ -50,10 +51,10 @@ pub fn push_indication_event(
     ensures kept { OnErr result (string_bytes text.new ≡ string_bytes text.old) }
 {
     let mut line = Line::begin(alloc)?;
-    head_members(&mut line, head, "indication")?;
-    line.text("user", event.user)?;
+    head_members(&mut line, head, kind::INDICATION)?;
+    line.text(member::USER, event.user)?;
     key_members(&mut line, event.key)?;
-    line.text("name", indication_name(event.indication))?;
+    line.text(member::NAME, indication_name(event.indication))?;
     said_members(&mut line, event.indication)?;
     line.end(text)
 }
@@ -81,17 +82,17 @@ fn said_members(line: &mut Line, said: &Indication) -> Result<(), AllocError>
             )
         }
         Indication::FileSegmentRecv { offset, length } => {
-            line.number("offset", u64::from(*offset))?;
-            line.number("length", u64::from(*length))
+            line.number(member::OFFSET, u64::from(*offset))?;
+            line.number(member::LENGTH, u64::from(*length))
         }
         Indication::Suspended { condition } => line.number(
-            "condition",
+            member::CONDITION,
             u64::from(condition.code()),
         ),
-        Indication::Resumed { progress } => line.number("progress", u64::from(*progress)),
+        Indication::Resumed { progress } => line.number(member::PROGRESS, u64::from(*progress)),
         Indication::Report { phase, progress } => {
-            line.text("phase", phase_name(*phase))?;
-            line.number("progress", u64::from(*progress))
+            line.text(member::PHASE, phase_name(*phase))?;
+            line.number(member::PROGRESS, u64::from(*progress))
         }
         Indication::Fault {
             condition,
@@ -101,8 +102,8 @@ fn said_members(line: &mut Line, said: &Indication) -> Result<(), AllocError>
             condition,
             progress,
         } => {
-            line.number("condition", u64::from(condition.code()))?;
-            line.number("progress", u64::from(*progress))
+            line.number(member::CONDITION, u64::from(condition.code()))?;
+            line.number(member::PROGRESS, u64::from(*progress))
         }
     }
 }
@@ -118,11 +119,11 @@ fn metadata_members(
     ensures { OnOk result (line.new
         ≡ line.old ++ metadata_members source size source_name.now destination_name.now messages.now) }
 {
-    line.number("origin", source.0)?;
-    line.number("size", size)?;
-    line.octets("file", source_name.as_slice())?;
-    line.octets("to", destination_name.as_slice())?;
-    line.hexes("messages", messages.as_slice())
+    line.number(member::ORIGIN, source.0)?;
+    line.number(member::SIZE, size)?;
+    line.octets(member::FILE, source_name.as_slice())?;
+    line.octets(member::TO, destination_name.as_slice())?;
+    line.hexes(member::MESSAGES, messages.as_slice())
 }
 
 /// Adds the line of a Put.
@@ -136,7 +137,7 @@ pub fn push_put_event(
     ensures kept { OnErr result (string_bytes text.new ≡ string_bytes text.old) }
 {
     let mut line = Line::begin(alloc)?;
-    head_members(&mut line, head, "put")?;
+    head_members(&mut line, head, kind::PUT)?;
     put_head(&mut line, put)?;
     put_file(&mut line, put)?;
     line.end(text)
@@ -145,18 +146,18 @@ pub fn push_put_event(
 fn put_head(line: &mut Line, put: &PutEvent<'_>) -> Result<(), AllocError>
     ensures { OnOk result (line.new ≡ line.old ++ put_head put.entry.now) }
 {
-    line.text("user", put.user)?;
+    line.text(member::USER, put.user)?;
     key_members(line, put.key)?;
-    line.number("peer", put.peer.0)?;
-    line.number("class", class_number(put.class))
+    line.number(member::PEER, put.peer.0)?;
+    line.number(member::CLASS, class_number(put.class))
 }
 
 fn put_file(line: &mut Line, put: &PutEvent<'_>) -> Result<(), AllocError>
     ensures { OnOk result (line.new ≡ line.old ++ put_file put.entry.now) }
 {
-    line.octets("file", put.file)?;
-    line.octets("to", put.to)?;
-    line.number("size", put.size)?;
+    line.octets(member::FILE, put.file)?;
+    line.octets(member::TO, put.to)?;
+    line.number(member::SIZE, put.size)?;
     queued_members(line, put.queued)
 }
 
@@ -165,7 +166,7 @@ fn queued_members(line: &mut Line, queued: Option<u64>) -> Result<(), AllocError
 {
     match queued {
         None => Ok(()),
-        Some(number) => line.number("queued", number),
+        Some(number) => line.number(member::QUEUED, number),
     }
 }
 
@@ -180,7 +181,7 @@ pub fn push_unsent_event(
     ensures kept { OnErr result (string_bytes text.new ≡ string_bytes text.old) }
 {
     let mut line = Line::begin(alloc)?;
-    head_members(&mut line, head, "unsent")?;
+    head_members(&mut line, head, kind::UNSENT)?;
     unsent_members(&mut line, unsent)?;
     line.end(text)
 }
@@ -189,11 +190,11 @@ pub fn push_unsent_event(
 fn unsent_members(line: &mut Line, unsent: &UnsentEvent<'_>) -> Result<(), AllocError>
     ensures { OnOk result (line.new ≡ line.old ++ unsent_members unsent.entry.now) }
 {
-    line.number("queued", unsent.queued)?;
-    line.text("user", unsent.user)?;
-    line.number("destination", unsent.destination.0)?;
-    line.octets("file", unsent.file)?;
-    line.text("why", unsent.why)?;
+    line.number(member::QUEUED, unsent.queued)?;
+    line.text(member::USER, unsent.user)?;
+    line.number(member::DESTINATION, unsent.destination.0)?;
+    line.octets(member::FILE, unsent.file)?;
+    line.text(member::WHY, unsent.why)?;
     reason_members(line, unsent.reason)
 }
 
@@ -203,7 +204,7 @@ fn reason_members(line: &mut Line, reason: Option<&str>) -> Result<(), AllocErro
 {
     match reason {
         None => Ok(()),
-        Some(reason) => line.text("reason", reason),
+        Some(reason) => line.text(member::REASON, reason),
     }
 }
 
@@ -222,9 +223,9 @@ pub fn push_stored_event(
     ensures kept { OnErr result (string_bytes text.new ≡ string_bytes text.old) }
 {
     let mut line = Line::begin(alloc)?;
-    head_members(&mut line, head, "stored")?;
+    head_members(&mut line, head, kind::STORED)?;
     key_members(&mut line, key)?;
-    line.text("status", status_name(stored_status(is_retained)))?;
+    line.text(member::STATUS, status_name(stored_status(is_retained)))?;
     place_members(&mut line, place)?;
     line.end(text)
 }
@@ -234,7 +235,7 @@ fn place_members(line: &mut Line, place: Option<&str>) -> Result<(), AllocError>
 {
     match place {
         None => Ok(()),
-        Some(place) => line.text("as", place),
+        Some(place) => line.text(member::AS, place),
     }
 }
 
@@ -259,8 +260,8 @@ pub fn push_refused_event(
     ensures kept { OnErr result (string_bytes text.new ≡ string_bytes text.old) }
 {
     let mut line = Line::begin(alloc)?;
-    head_members(&mut line, head, "refused")?;
-    case_members(&mut line, "refusal", case)?;
+    head_members(&mut line, head, kind::REFUSED)?;
+    case_members(&mut line, member::REFUSAL, case)?;
     datagram_members(&mut line, case.datagram)?;
     line.end(text)
 }
@@ -275,7 +276,7 @@ pub fn push_hold_event(
     ensures added { OnOk result (string_bytes text.new ≡ string_bytes text.old ++ hold_line head id) }
     ensures kept { OnErr result (string_bytes text.new ≡ string_bytes text.old) }
 {
-    push_about_remote(alloc, text, head, "hold", id)
+    push_about_remote(alloc, text, head, kind::HOLD, id)
 }
 
 /// Adds the line of a hold that was planned: the time is over for which the link to a remote entity was open.
@@ -289,9 +290,9 @@ pub fn push_planned_hold_event(
     ensures kept { OnErr result (string_bytes text.new ≡ string_bytes text.old) }
 {
     let mut line = Line::begin(alloc)?;
-    head_members(&mut line, head, "hold")?;
-    line.number("id", id.0)?;
-    line.flag("planned", true)?;
+    head_members(&mut line, head, kind::HOLD)?;
+    line.number(member::ID, id.0)?;
+    line.flag(member::PLANNED, true)?;
     line.end(text)
 }
 
@@ -305,7 +306,7 @@ pub fn push_release_event(
     ensures added { OnOk result (string_bytes text.new ≡ string_bytes text.old ++ release_line head id) }
     ensures kept { OnErr result (string_bytes text.new ≡ string_bytes text.old) }
 {
-    push_about_remote(alloc, text, head, "release", id)
+    push_about_remote(alloc, text, head, kind::RELEASE, id)
 }
 
 // Adds the line of an event about a remote entity.
@@ -321,7 +322,7 @@ fn push_about_remote(
 {
     let mut line = Line::begin(alloc)?;
     head_members(&mut line, head, kind)?;
-    line.number("id", id.0)?;
+    line.number(member::ID, id.0)?;
     line.end(text)
 }
 
@@ -336,8 +337,8 @@ pub fn push_unparked_event(
     ensures kept { OnErr result (string_bytes text.new ≡ string_bytes text.old) }
 {
     let mut line = Line::begin(alloc)?;
-    head_members(&mut line, head, "unparked")?;
-    line.number("count", count)?;
+    head_members(&mut line, head, kind::UNPARKED)?;
+    line.number(member::COUNT, count)?;
     line.end(text)
 }
 
@@ -352,7 +353,7 @@ pub fn push_skipped_event(
     ensures kept { OnErr result (string_bytes text.new ≡ string_bytes text.old) }
 {
     let mut line = Line::begin(alloc)?;
-    head_members(&mut line, head, "skipped")?;
+    head_members(&mut line, head, kind::SKIPPED)?;
     skipped_members(&mut line, skipped)?;
     line.end(text)
 }
@@ -361,10 +362,10 @@ pub fn push_skipped_event(
 fn skipped_members(line: &mut Line, skipped: &SkippedEvent<'_>) -> Result<(), AllocError>
     ensures { OnOk result (line.new ≡ line.old ++ skipped_members skipped.entry.now) }
 {
-    line.text("user", skipped.user)?;
-    line.number("destination", skipped.destination.0)?;
-    line.number("count", skipped.count)?;
-    line.number("next", skipped.next)
+    line.text(member::USER, skipped.user)?;
+    line.number(member::DESTINATION, skipped.destination.0)?;
+    line.number(member::COUNT, skipped.count)?;
+    line.number(member::NEXT, skipped.next)
 }
 
 /// Adds the line of a command, and what came of it.
@@ -378,7 +379,7 @@ pub fn push_command_event(
     ensures kept { OnErr result (string_bytes text.new ≡ string_bytes text.old) }
 {
     let mut line = Line::begin(alloc)?;
-    head_members(&mut line, head, "command")?;
+    head_members(&mut line, head, kind::COMMAND)?;
     command_members(&mut line, command)?;
     line.end(text)
 }
@@ -387,8 +388,8 @@ pub fn push_command_event(
 fn command_members(line: &mut Line, command: &CommandEvent<'_>) -> Result<(), AllocError>
     ensures { OnOk result (line.new ≡ line.old ++ command_members command.entry.now) }
 {
-    line.text("words", command.words)?;
-    line.text("answer", command.answer)?;
+    line.text(member::WORDS, command.words)?;
+    line.text(member::ANSWER, command.answer)?;
     asker_members(line, command.seat)?;
     reason_members(line, command.reason)
 }
@@ -399,10 +400,10 @@ fn asker_members(line: &mut Line, seat: Option<u64>) -> Result<(), AllocError>
 {
     match seat {
         Some(seat) => {
-            line.text("by", "client")?;
-            line.number("seat", seat)
+            line.text(member::BY, "client")?;
+            line.number(member::SEAT, seat)
         }
-        None => line.text("by", "input"),
+        None => line.text(member::BY, "input"),
     }
 }
 
@@ -418,7 +419,7 @@ pub fn push_journal_full_event(
     ensures kept { OnErr result (string_bytes text.new ≡ string_bytes text.old) }
 {
     let mut line = Line::begin(alloc)?;
-    head_members(&mut line, head, "journal-full")?;
+    head_members(&mut line, head, kind::JOURNAL_FULL)?;
     journal_full_members(&mut line, user, key)?;
     line.end(text)
 }
@@ -427,7 +428,7 @@ pub fn push_journal_full_event(
 fn journal_full_members(line: &mut Line, user: &str, key: TxnKey) -> Result<(), AllocError>
     ensures { OnOk result (line.new ≡ line.old ++ journal_full_members user.now key) }
 {
-    line.text("user", user)?;
+    line.text(member::USER, user)?;
     key_members(line, key)
 }
 
@@ -440,7 +441,7 @@ pub fn push_reads_ended_event(
     ensures added { OnOk result (string_bytes text.new ≡ string_bytes text.old ++ reads_ended_line head) }
     ensures kept { OnErr result (string_bytes text.new ≡ string_bytes text.old) }
 {
-    push_plain_event(alloc, text, head, "reads-ended")
+    push_plain_event(alloc, text, head, kind::READS_ENDED)
 }
 
 /// Adds the line of a server's end.
@@ -448,7 +449,7 @@ pub fn push_end_event(alloc: Global, text: &mut String, head: EventHead) -> Resu
     ensures added { OnOk result (string_bytes text.new ≡ string_bytes text.old ++ end_line head) }
     ensures kept { OnErr result (string_bytes text.new ≡ string_bytes text.old) }
 {
-    push_plain_event(alloc, text, head, "end")
+    push_plain_event(alloc, text, head, kind::END)
 }
 
 // Adds the line of an event that has no further members.

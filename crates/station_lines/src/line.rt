@@ -9,6 +9,7 @@ use crate::letters::push_safe;
 use crate::moment::Moment;
 use cfdp_types::Octets;
 use json::Writer;
+use station_names::member;
 use std::alloc::{AllocError, Global};
 use std::marker::Model;
 use std::str;
@@ -88,7 +89,7 @@ impl Line {
         if value <= EXACT_MOST {
             return Ok(());
         }
-        self.long_key(name, "_text")?;
+        self.long_key(name, member::TEXT_ENDING)?;
         self.writer.quoted_u64(value)
     }
 
@@ -144,7 +145,7 @@ impl Line {
     fn hex_octets(&mut self, name: &str, octets: &[u8]) -> Result<(), AllocError>
         ensures { OnOk result (self.new ≡ self.old ++ hex_member (name.now ++ codes "_hex") octets.now) }
     {
-        self.long_key(name, "_hex")?;
+        self.long_key(name, member::HEX_ENDING)?;
         self.hex_string(octets)
     }
 

@@ -5,6 +5,7 @@ ghost use Rattle.station_lines.specs.Shared.{key_members, finished_members, case
 use crate::line::Line;
 use answer_texts::{delivery_name, status_name};
 use cfdp_types::{Class, Condition, Delivery, FileStatus, TxnKey};
+use station_names::member;
 use std::alloc::AllocError;
 
 /// The most octets of a refused datagram that a line shows.
@@ -46,8 +47,8 @@ pub struct RefusedPdu<'a> {
 pub(crate) fn key_members(line: &mut Line, key: TxnKey) -> Result<(), AllocError>
     ensures { OnOk result (line.new ≡ line.old ++ key_members key) }
 {
-    line.number("source", key.source.0)?;
-    line.number("seq", key.seq)
+    line.number(member::SOURCE, key.source.0)?;
+    line.number(member::SEQ, key.seq)
 }
 
 // How a transaction finished.
@@ -59,9 +60,9 @@ pub(crate) fn finished_members(
 ) -> Result<(), AllocError>
     ensures { OnOk result (line.new ≡ line.old ++ finished_members condition delivery status) }
 {
-    line.number("condition", u64::from(condition.code()))?;
-    line.text("delivery", delivery_name(delivery))?;
-    line.text("status", status_name(status))
+    line.number(member::CONDITION, u64::from(condition.code()))?;
+    line.text(member::DELIVERY, delivery_name(delivery))?;
+    line.text(member::STATUS, status_name(status))
 }
 
 // A kind of refusal and its count. The member for its number has a name that depends on the line.
@@ -73,9 +74,9 @@ pub(crate) fn case_members(
     ensures { OnOk result (line.new ≡ line.old ++ case_members number_name.now case.entry.now) }
 {
     line.number(number_name, u64::from(case.number))?;
-    line.text("name", case.name)?;
+    line.text(member::NAME, case.name)?;
     fault_members(line, case.fault)?;
-    line.number("count", case.count)
+    line.number(member::COUNT, case.count)
 }
 
 fn fault_members(line: &mut Line, fault: Option<u8>) -> Result<(), AllocError>
@@ -83,7 +84,7 @@ fn fault_members(line: &mut Line, fault: Option<u8>) -> Result<(), AllocError>
 {
     match fault {
         None => Ok(()),
-        Some(fault) => line.number("fault", u64::from(fault)),
+        Some(fault) => line.number(member::FAULT, u64::from(fault)),
     }
 }
 
@@ -96,8 +97,8 @@ pub(crate) fn datagram_members(
     let Some(datagram) = datagram else {
         return Ok(());
     };
-    line.text("from", datagram.from)?;
-    line.hex("octets", first_octets(datagram.octets, SHOWN_OCTETS))
+    line.text(member::FROM, datagram.from)?;
+    line.hex(member::OCTETS, first_octets(datagram.octets, SHOWN_OCTETS))
 }
 
 // Which PDU it was, if that is shown.
@@ -108,7 +109,7 @@ pub(crate) fn pdu_members(line: &mut Line, pdu: Option<RefusedPdu<'_>>) -> Resul
         return Ok(());
     };
     named_members(line, pdu.key)?;
-    line.text("pdu", pdu.kind)
+    line.text(member::PDU, pdu.kind)
 }
 
 // Its transaction, if the octets name one.

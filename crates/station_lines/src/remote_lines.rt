@@ -6,6 +6,7 @@ ghost use Rattle.station_lines.specs.StatusLines.{address_members, crossing_memb
 use crate::line::Line;
 use crate::moment::Moment;
 use crate::status::{Heard, RemoteStatus};
+use station_names::{kind, member};
 use std::alloc::{AllocError, Global};
 
 /// Adds the line of a remote entity.
@@ -30,8 +31,8 @@ pub fn push_remote(
 fn remote_head(line: &mut Line, remote: &RemoteStatus<'_>) -> Result<(), AllocError>
     ensures { OnOk result (line.new ≡ line.old ++ remote_head remote.entry.now) }
 {
-    line.text("kind", "remote")?;
-    line.number("id", remote.id.0)?;
+    line.text(member::KIND, kind::REMOTE)?;
+    line.number(member::ID, remote.id.0)?;
     address_members(line, remote.address)
 }
 
@@ -40,7 +41,7 @@ fn address_members(line: &mut Line, address: Option<&str>) -> Result<(), AllocEr
 {
     match address {
         None => Ok(()),
-        Some(address) => line.text("address", address),
+        Some(address) => line.text(member::ADDRESS, address),
     }
 }
 
@@ -48,10 +49,10 @@ fn held_members(line: &mut Line, held_since: Option<Moment>) -> Result<(), Alloc
     ensures { OnOk result (line.new ≡ line.old ++ held_members held_since) }
 {
     match held_since {
-        None => line.flag("held", false),
+        None => line.flag(member::HELD, false),
         Some(since) => {
-            line.flag("held", true)?;
-            line.moment("held_since", since)
+            line.flag(member::HELD, true)?;
+            line.moment(member::HELD_SINCE, since)
         }
     }
 }
@@ -61,7 +62,7 @@ fn open_members(line: &mut Line, open_until: Option<Moment>) -> Result<(), Alloc
 {
     match open_until {
         None => Ok(()),
-        Some(until) => line.moment("open_until", until),
+        Some(until) => line.moment(member::OPEN_UNTIL, until),
     }
 }
 
@@ -69,10 +70,10 @@ fn crossing_members(line: &mut Line, remote: &RemoteStatus<'_>) -> Result<(), Al
     ensures { OnOk result (line.new ≡ line.old ++ crossing_members remote.entry.now) }
 {
     line.four_numbers(
-        ("datagrams_in", remote.datagrams_in),
-        ("octets_in", remote.octets_in),
-        ("datagrams_out", remote.datagrams_out),
-        ("octets_out", remote.octets_out),
+        (member::DATAGRAMS_IN, remote.datagrams_in),
+        (member::OCTETS_IN, remote.octets_in),
+        (member::DATAGRAMS_OUT, remote.datagrams_out),
+        (member::OCTETS_OUT, remote.octets_out),
     )
 }
 
@@ -80,7 +81,7 @@ fn crossing_members(line: &mut Line, remote: &RemoteStatus<'_>) -> Result<(), Al
 fn remote_tail(line: &mut Line, remote: &RemoteStatus<'_>) -> Result<(), AllocError>
     ensures { OnOk result (line.new ≡ line.old ++ remote_tail remote.entry.now) }
 {
-    line.number("failed_sends", remote.failed_sends)?;
+    line.number(member::FAILED_SENDS, remote.failed_sends)?;
     heard_members(line, remote.heard)
 }
 
@@ -90,8 +91,8 @@ fn heard_members(line: &mut Line, heard: Option<Heard>) -> Result<(), AllocError
     match heard {
         None => Ok(()),
         Some(heard) => {
-            line.moment("heard", heard.at)?;
-            line.number("silence", heard.silence)
+            line.moment(member::HEARD, heard.at)?;
+            line.number(member::SILENCE, heard.silence)
         }
     }
 }

@@ -17,6 +17,7 @@ use crate::status::{
 use answer_texts::phase_name;
 use indications::Side;
 use lane_table::{Glance, GlancedFile};
+use station_names::{kind, member, word};
 use std::alloc::{AllocError, Global};
 
 /// Adds the line of the entity.
@@ -39,20 +40,20 @@ pub fn push_entity(
 fn entity_head(line: &mut Line, entity: &EntityStatus<'_>) -> Result<(), AllocError>
     ensures { OnOk result (line.new ≡ line.old ++ entity_head entity.entry.now) }
 {
-    line.text("kind", "entity")?;
-    line.number("id", entity.id.0)?;
-    line.text("version", entity.version)?;
-    line.moment("started", entity.started)
+    line.text(member::KIND, kind::ENTITY)?;
+    line.number(member::ID, entity.id.0)?;
+    line.text(member::VERSION, entity.version)?;
+    line.moment(member::STARTED, entity.started)
 }
 
 // The entity's state.
 fn entity_state(line: &mut Line, entity: &EntityStatus<'_>) -> Result<(), AllocError>
     ensures { OnOk result (line.new ≡ line.old ++ entity_state entity.entry.now) }
 {
-    line.moment("now", entity.now)?;
-    line.number("workers", entity.workers as u64)?;
-    line.number("clients", entity.clients as u64)?;
-    line.number("events", entity.events)
+    line.moment(member::NOW, entity.now)?;
+    line.number(member::WORKERS, entity.workers as u64)?;
+    line.number(member::CLIENTS, entity.clients as u64)?;
+    line.number(member::EVENTS, entity.events)
 }
 
 #[tactic(auto, unfolding(crate::specs::Members::object_member))]
@@ -60,7 +61,7 @@ fn counters_object(line: &mut Line, counters: &Counters) -> Result<(), AllocErro
     ensures { OnOk result (line.new
         ≡ line.old ++ object_member (codes "counters") (counter_members counters.now)) }
 {
-    line.begin_object("counters")?;
+    line.begin_object(member::COUNTERS)?;
     counter_members(line, counters)?;
     line.end_object()
 }
@@ -77,10 +78,10 @@ fn traffic_members(line: &mut Line, counters: &Counters) -> Result<(), AllocErro
     ensures { OnOk result (line.new ≡ line.old ++ traffic_members counters.now) }
 {
     line.four_numbers(
-        ("datagrams_in", counters.datagrams_in),
-        ("octets_in", counters.octets_in),
-        ("datagrams_out", counters.datagrams_out),
-        ("octets_out", counters.octets_out),
+        (member::DATAGRAMS_IN, counters.datagrams_in),
+        (member::OCTETS_IN, counters.octets_in),
+        (member::DATAGRAMS_OUT, counters.datagrams_out),
+        (member::OCTETS_OUT, counters.octets_out),
     )
 }
 
@@ -88,11 +89,11 @@ fn trouble_members(line: &mut Line, counters: &Counters) -> Result<(), AllocErro
     ensures { OnOk result (line.new ≡ line.old ++ trouble_members counters.now) }
 {
     line.five_numbers(
-        ("failed_sends", counters.failed_sends),
-        ("failed_reads", counters.failed_reads),
-        ("ended_reads", counters.ended_reads),
-        ("foreign_datagrams", counters.foreign_datagrams),
-        ("decode_faults", counters.decode_faults),
+        (member::FAILED_SENDS, counters.failed_sends),
+        (member::FAILED_READS, counters.failed_reads),
+        (member::ENDED_READS, counters.ended_reads),
+        (member::FOREIGN_DATAGRAMS, counters.foreign_datagrams),
+        (member::DECODE_FAULTS, counters.decode_faults),
     )
 }
 
@@ -100,10 +101,10 @@ fn outcome_members(line: &mut Line, counters: &Counters) -> Result<(), AllocErro
     ensures { OnOk result (line.new ≡ line.old ++ outcome_members counters.now) }
 {
     line.four_numbers(
-        ("refused", counters.refused),
-        ("stored", counters.stored),
-        ("failed_stores", counters.failed_stores),
-        ("dropped_clients", counters.dropped_clients),
+        (member::REFUSED, counters.refused),
+        (member::STORED, counters.stored),
+        (member::FAILED_STORES, counters.failed_stores),
+        (member::DROPPED_CLIENTS, counters.dropped_clients),
     )
 }
 
@@ -113,10 +114,10 @@ pub fn push_log(alloc: Global, text: &mut String, log: &LogStatus) -> Result<(),
     ensures kept { OnErr result (string_bytes text.new ≡ string_bytes text.old) }
 {
     let mut line = Line::begin(alloc)?;
-    line.text("kind", "log")?;
-    line.flag("failing", log.failing)?;
-    line.number("written", log.written)?;
-    line.number("lost", log.lost)?;
+    line.text(member::KIND, kind::LOG)?;
+    line.flag(member::FAILING, log.failing)?;
+    line.number(member::WRITTEN, log.written)?;
+    line.number(member::LOST, log.lost)?;
     line.end(text)
 }
 
@@ -126,10 +127,10 @@ pub fn push_user(alloc: Global, text: &mut String, user: &UserStatus<'_>) -> Res
     ensures kept { OnErr result (string_bytes text.new ≡ string_bytes text.old) }
 {
     let mut line = Line::begin(alloc)?;
-    line.text("kind", "user")?;
-    line.text("name", user.name)?;
-    line.number("waiting", user.waiting as u64)?;
-    line.number("capacity", user.capacity as u64)?;
+    line.text(member::KIND, kind::USER)?;
+    line.text(member::NAME, user.name)?;
+    line.number(member::WAITING, user.waiting as u64)?;
+    line.number(member::CAPACITY, user.capacity as u64)?;
     line.end(text)
 }
 
@@ -154,20 +155,20 @@ pub fn push_transaction(
 fn transaction_head(line: &mut Line, transaction: &TransactionStatus<'_>) -> Result<(), AllocError>
     ensures { OnOk result (line.new ≡ line.old ++ transaction_head transaction.entry.now) }
 {
-    line.text("kind", "transaction")?;
+    line.text(member::KIND, kind::TRANSACTION)?;
     key_members(line, transaction.glance.key)?;
-    line.text("user", transaction.user)?;
-    line.number("lane", transaction.lane as u64)
+    line.text(member::USER, transaction.user)?;
+    line.number(member::LANE, transaction.lane as u64)
 }
 
 // This end's role, the other end, the class and the state.
 fn transaction_part(line: &mut Line, glance: &Glance) -> Result<(), AllocError>
     ensures { OnOk result (line.new ≡ line.old ++ transaction_part glance.now) }
 {
-    line.text("role", role_name(glance.end))?;
-    line.number("peer", glance.peer.0)?;
-    line.number("class", class_number(glance.class))?;
-    line.text("state", state_name(glance))
+    line.text(member::ROLE, role_name(glance.end))?;
+    line.number(member::PEER, glance.peer.0)?;
+    line.number(member::CLASS, class_number(glance.class))?;
+    line.text(member::STATE, state_name(glance))
 }
 
 // The transaction's file and its progress.
@@ -175,8 +176,8 @@ fn transaction_file(line: &mut Line, glance: &Glance) -> Result<(), AllocError>
     ensures { OnOk result (line.new ≡ line.old ++ transaction_file glance.now) }
 {
     file_members(line, &glance.file)?;
-    line.number("octets", u64::from(glance.progress))?;
-    line.number("events", u64::from(glance.entries))
+    line.number(member::OCTETS, u64::from(glance.progress))?;
+    line.number(member::EVENTS, u64::from(glance.entries))
 }
 
 fn file_members(line: &mut Line, file: &Option<GlancedFile>) -> Result<(), AllocError>
@@ -185,9 +186,9 @@ fn file_members(line: &mut Line, file: &Option<GlancedFile>) -> Result<(), Alloc
     let Some(file) = file else {
         return Ok(());
     };
-    line.octets("file", file.source_name.as_slice())?;
-    line.octets("to", file.destination_name.as_slice())?;
-    line.number("size", file.size)
+    line.octets(member::FILE, file.source_name.as_slice())?;
+    line.octets(member::TO, file.destination_name.as_slice())?;
+    line.number(member::SIZE, file.size)
 }
 
 // What the server saw of the transaction, and a notice.
@@ -205,7 +206,7 @@ fn last_members(line: &mut Line, last: Option<Moment>) -> Result<(), AllocError>
 {
     match last {
         None => Ok(()),
-        Some(last) => line.moment("last", last),
+        Some(last) => line.moment(member::LAST, last),
     }
 }
 
@@ -227,7 +228,10 @@ fn end_members(line: &mut Line, ending: Ending) -> Result<(), AllocError>
             delivery,
             status,
         } => finished_members(line, condition, delivery, status),
-        Ending::Abandoned { condition } => line.number("condition", u64::from(condition.code())),
+        Ending::Abandoned { condition } => line.number(
+            member::CONDITION,
+            u64::from(condition.code()),
+        ),
     }
 }
 
@@ -236,7 +240,7 @@ fn notice_members(line: &mut Line, notice: Option<Notice>) -> Result<(), AllocEr
 {
     match notice {
         None => Ok(()),
-        Some(notice) => line.text("notice", notice_name(notice)),
+        Some(notice) => line.text(member::NOTICE, notice_name(notice)),
     }
 }
 
@@ -245,7 +249,7 @@ fn missing_members(line: &mut Line, missing: Option<u64>) -> Result<(), AllocErr
 {
     match missing {
         None => Ok(()),
-        Some(missing) => line.number("missing", missing),
+        Some(missing) => line.number(member::MISSING, missing),
     }
 }
 
@@ -263,8 +267,8 @@ pub(crate) fn role_name(end: Side) -> &'static str
     ensures { result.now ≡ role_name end }
 {
     match end {
-        Side::Sender => "sender",
-        Side::Receiver => "receiver",
+        Side::Sender => word::SENDER,
+        Side::Receiver => word::RECEIVER,
     }
 }
 
@@ -272,7 +276,7 @@ fn state_name(glance: &Glance) -> &'static str
     ensures { result.now ≡ state_name glance.now }
 {
     if glance.has_ended {
-        "ended"
+        word::ENDED
     } else {
         phase_name(glance.phase)
     }
@@ -297,20 +301,20 @@ pub fn push_queued(
 fn queued_head(line: &mut Line, queued: &QueuedStatus<'_>) -> Result<(), AllocError>
     ensures { OnOk result (line.new ≡ line.old ++ queued_head queued.entry.now) }
 {
-    line.text("kind", "queued")?;
-    line.number("number", queued.number)?;
-    line.text("user", queued.user)?;
-    line.number("class", class_number(queued.class))?;
-    line.number("destination", queued.destination.0)
+    line.text(member::KIND, kind::QUEUED)?;
+    line.number(member::NUMBER, queued.number)?;
+    line.text(member::USER, queued.user)?;
+    line.number(member::CLASS, class_number(queued.class))?;
+    line.number(member::DESTINATION, queued.destination.0)
 }
 
 // The file's names, and since when it waits.
 fn queued_file(line: &mut Line, queued: &QueuedStatus<'_>) -> Result<(), AllocError>
     ensures { OnOk result (line.new ≡ line.old ++ queued_file queued.entry.now) }
 {
-    line.octets("file", queued.file)?;
-    line.octets("to", queued.to)?;
-    line.moment("since", queued.since)
+    line.octets(member::FILE, queued.file)?;
+    line.octets(member::TO, queued.to)?;
+    line.moment(member::SINCE, queued.since)
 }
 
 /// Adds the line of a file that is being read.
@@ -330,9 +334,9 @@ pub fn push_reading(
 fn reading_members(line: &mut Line, reading: &ReadingStatus<'_>) -> Result<(), AllocError>
     ensures { OnOk result (line.new ≡ line.old ++ reading_members reading.entry.now) }
 {
-    line.text("kind", "reading")?;
-    line.octets("file", reading.file)?;
-    line.moment("since", reading.since)
+    line.text(member::KIND, kind::READING)?;
+    line.octets(member::FILE, reading.file)?;
+    line.moment(member::SINCE, reading.since)
 }
 
 /// Adds the line of a received file that is being stored, or couldn't be stored so far.
@@ -353,10 +357,10 @@ pub fn push_storing(
 fn storing_members(line: &mut Line, storing: &StoringStatus<'_>) -> Result<(), AllocError>
     ensures { OnOk result (line.new ≡ line.old ++ storing_members storing.entry.now) }
 {
-    line.text("kind", "storing")?;
-    line.number("source", storing.source.0)?;
-    line.number("seq", storing.seq)?;
-    line.moment("since", storing.since)
+    line.text(member::KIND, kind::STORING)?;
+    line.number(member::SOURCE, storing.source.0)?;
+    line.number(member::SEQ, storing.seq)?;
+    line.moment(member::SINCE, storing.since)
 }
 
 // What hindered the last try, if there was one.
@@ -364,7 +368,7 @@ fn why_members(line: &mut Line, why: Option<&str>) -> Result<(), AllocError>
     ensures { OnOk result (line.new ≡ line.old ++ why_members (option_copied why.entry)) }
 {
     match why {
-        Some(why) => line.text("why", why),
+        Some(why) => line.text(member::WHY, why),
         None => Ok(()),
     }
 }
@@ -389,9 +393,9 @@ pub fn push_parked(
 fn parked_head(line: &mut Line, parked: &ParkedStatus<'_>) -> Result<(), AllocError>
     ensures { OnOk result (line.new ≡ line.old ++ parked_head parked.entry.now) }
 {
-    line.text("kind", "parked")?;
-    line.text("user", parked.user)?;
-    line.number("lane", parked.lane as u64)
+    line.text(member::KIND, kind::PARKED)?;
+    line.text(member::USER, parked.user)?;
+    line.number(member::LANE, parked.lane as u64)
 }
 
 // How much waits for it, and how much was dropped.
@@ -399,10 +403,10 @@ fn parked_amounts(line: &mut Line, parked: &ParkedStatus<'_>) -> Result<(), Allo
     ensures { OnOk result (line.new ≡ line.old ++ parked_amounts parked.entry.now) }
 {
     line.four_numbers(
-        ("datagrams", parked.datagrams),
-        ("transactions", parked.transactions),
-        ("octets", parked.octets),
-        ("dropped", parked.dropped),
+        (member::DATAGRAMS, parked.datagrams),
+        (member::TRANSACTIONS, parked.transactions),
+        (member::OCTETS, parked.octets),
+        (member::DROPPED, parked.dropped),
     )
 }
 
@@ -411,7 +415,7 @@ fn since_members(line: &mut Line, since: Option<Moment>) -> Result<(), AllocErro
 {
     match since {
         None => Ok(()),
-        Some(since) => line.moment("since", since),
+        Some(since) => line.moment(member::SINCE, since),
     }
 }
 
@@ -427,9 +431,9 @@ pub fn push_refusal(
     ensures kept { OnErr result (string_bytes text.new ≡ string_bytes text.old) }
 {
     let mut line = Line::begin(alloc)?;
-    line.text("kind", "refusal")?;
-    case_members(&mut line, "number", case)?;
-    line.moment("last", last)?;
+    line.text(member::KIND, kind::REFUSAL)?;
+    case_members(&mut line, member::NUMBER, case)?;
+    line.moment(member::LAST, last)?;
     datagram_members(&mut line, case.datagram)?;
     pdu_members(&mut line, pdu)?;
     line.end(text)
@@ -448,9 +452,9 @@ pub fn push_note(alloc: Global, text: &mut String, note: &NoteStatus<'_>) -> Res
 fn note_members(line: &mut Line, note: &NoteStatus<'_>) -> Result<(), AllocError>
     ensures { OnOk result (line.new ≡ line.old ++ note_members note.entry.now) }
 {
-    line.text("kind", "note")?;
-    line.number("remote", note.remote.0)?;
-    line.number("sending_lanes", note.sending_lanes)?;
-    line.number("receiving_lanes", note.receiving_lanes)?;
-    line.numbers("better", note.better)
+    line.text(member::KIND, kind::NOTE)?;
+    line.number(member::REMOTE, note.remote.0)?;
+    line.number(member::SENDING_LANES, note.sending_lanes)?;
+    line.number(member::RECEIVING_LANES, note.receiving_lanes)?;
+    line.numbers(member::BETTER, note.better)
 }

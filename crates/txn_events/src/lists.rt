@@ -2,7 +2,6 @@ ghost use Rattle.std.specs.Prelude.{◌≡◌, [], ◌∷◌, ◌++◌, IfOk, On
 
 use cfdp_types::TimerOp;
 use pdu_values::Pdu;
-use smallvec::SmallVec;
 use std::alloc::{AllocError, Global};
 use std::marker::Model;
 
@@ -48,11 +47,10 @@ impl Pdus {
     }
 }
 
-/// The timer operations of one step, in order: most often one, which then takes no memory of its own. Contracts see the
-/// list of them.
+/// The timer operations of one step, in order. Contracts see the list of them.
 #[derive(Debug, Drop)]
 pub struct TimerOps {
-    items: SmallVec<TimerOp, 1>,
+    items: Vec<TimerOp>,
 }
 
 impl Model for TimerOps {
@@ -70,7 +68,7 @@ impl TimerOps {
         ensures { result ≡ [] }
     {
         TimerOps {
-            items: SmallVec::new(alloc),
+            items: Vec::new(alloc),
         }
     }
 

@@ -14,6 +14,9 @@ use web_pages::{Console, Settings};
 // How many seconds a visitor may take to send a request, and to take an answer.
 const PATIENCE_SECS: u64 = 10;
 
+// How many of those seconds a visitor may take to send its first octet.
+const SILENCE_SECS: u64 = 2;
+
 // The most octets of a request's body: those of a command's line.
 const BODY_OCTETS: usize = 131_072;
 
@@ -29,6 +32,8 @@ pub(crate) struct Visit {
     until: Duration,
     /// Whether an answer is to be taken; else a request is to come.
     is_writing: bool,
+    /// Whether no octet has come yet.
+    is_silent: bool,
 }
 
 impl Visit {
@@ -48,8 +53,9 @@ impl Visit {
         Ok(Visit {
             stream,
             connection: Connection::new(alloc, keys, config),
-            until: patience_from(rt)?,
+            until: later(rt, SILENCE_SECS)?,
             is_writing: false,
+            is_silent: true,
         })
     }
 
@@ -84,7 +90,7 @@ impl Visit {
             }
             if self.connection.wants_write() != self.is_writing {
                 self.is_writing = !self.is_writing;
-                self.until = patience_from(rt)?;
+                self.until = later(rt, PATIENCE_SECS)?;
             }
             match self.move_octets() {
                 Ok(()) => {}
@@ -95,7 +101,7 @@ impl Visit {
         Ok(true)
     }
 
-    // Writes what is pending, or reads.
+    // Writes what is pending, or reads. The first octet gives a visitor the rest of the console's patience.
     fn move_octets(&mut self) -> io::Result<()> {
         if self.is_writing {
             let mut writer = &self.stream;
@@ -104,16 +110,19 @@ impl Visit {
             }
         } else {
             let mut reader = &self.stream;
-            self.connection.read_from(&mut reader)?;
+            let count = self.connection.read_from(&mut reader)?;
+            if self.is_silent && count > 0 {
+                self.is_silent = false;
+                self.until = self
+                    .until
+                    .saturating_add(Duration::from_secs(PATIENCE_SECS - SILENCE_SECS));
+            }
         }
         Ok(())
     }
 }
 
-// The moment at which the console's patience ends that begins now.
-fn patience_from<R: Clock>(rt: &R) -> io::Result<Duration> {
-    Ok(
-        rt.monotonic()?
-            .saturating_add(Duration::from_secs(PATIENCE_SECS)),
-    )
+// The moment so many seconds from now.
+fn later<R: Clock>(rt: &R, secs: u64) -> io::Result<Duration> {
+    Ok(rt.monotonic()?.saturating_add(Duration::from_secs(secs)))
 }

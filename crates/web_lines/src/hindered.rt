@@ -6,6 +6,7 @@ ghost use Rattle.web_lines.specs.Hindered.{count_of_hindered, is_hindered, says_
 use crate::kind::Kind;
 use crate::lines::Line;
 use json::{Scratch, Value};
+use station_names::member;
 use std::alloc::{AllocError, Global};
 
 /// How many lines say what hindered the last try to store a file.
@@ -40,5 +41,5 @@ fn is_hindered(alloc: Global, line: Line<'_>, scratch: &mut Scratch) -> Result<b
 fn says_why(value: &Value<'_>) -> bool
     ensures { result ≡ says_why (Some (value_view value.now)) }
 {
-    value.get("why").is_some()
+    value.get(member::WHY).is_some()
 }

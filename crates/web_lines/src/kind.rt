@@ -4,6 +4,7 @@ ghost use Rattle.json.specs.Value.{value_view};
 ghost use Rattle.web_lines.specs.Document.{named, kind_name, kind_of_value, place_of};
 
 use json::Value;
+use station_names::{kind, member};
 
 /// What a line of status is about.
 #[derive(Clone, Copy, Debug, PartialEq, Eq)]
@@ -38,20 +39,20 @@ impl Kind {
         ensures { result ≡ named name.now }
     {
         match name {
-            "entity" => Some(Kind::Entity),
-            "log" => Some(Kind::Log),
-            "user" => Some(Kind::User),
-            "transaction" => Some(Kind::Transaction),
-            "remote" => Some(Kind::Remote),
-            "refusal" => Some(Kind::Refusal),
-            "queued" => Some(Kind::Queued),
-            "reading" => Some(Kind::Reading),
-            "parked" => Some(Kind::Parked),
-            "storing" => Some(Kind::Storing),
-            "recorder" => Some(Kind::Recorder),
-            "ended" => Some(Kind::Ended),
-            "delivered" => Some(Kind::Delivered),
-            "store" => Some(Kind::Store),
+            kind::ENTITY => Some(Kind::Entity),
+            kind::LOG => Some(Kind::Log),
+            kind::USER => Some(Kind::User),
+            kind::TRANSACTION => Some(Kind::Transaction),
+            kind::REMOTE => Some(Kind::Remote),
+            kind::REFUSAL => Some(Kind::Refusal),
+            kind::QUEUED => Some(Kind::Queued),
+            kind::READING => Some(Kind::Reading),
+            kind::PARKED => Some(Kind::Parked),
+            kind::STORING => Some(Kind::Storing),
+            kind::RECORDER => Some(Kind::Recorder),
+            kind::ENDED => Some(Kind::Ended),
+            kind::DELIVERED => Some(Kind::Delivered),
+            kind::STORE => Some(Kind::Store),
             _ => None,
         }
     }
@@ -93,7 +94,7 @@ impl Kind {
 fn kind_name<'a>(value: &Value<'a>) -> Option<&'a str>
     ensures { option_map (λ s. s.now) result ≡ kind_name (value_view value.now) }
 {
-    match value.get("kind") {
+    match value.get(member::KIND) {
         Some(member) => member.as_str(),
         None => None,
     }

@@ -11,6 +11,7 @@ use crate::kind::Kind;
 use crate::lines::{Line, read_lines};
 use crate::place::whole_in;
 use json::{Error, Scratch, Value};
+use station_names::member;
 use std::alloc::{AllocError, Global};
 
 /// The number of an event; none where the line is no JSON object with a number.
@@ -20,7 +21,7 @@ pub fn event_number(alloc: Global, line: &str) -> Result<Option<u64>, AllocError
     let mut scratch = Scratch::new(alloc);
     scratch.reserve(line.len())?;
     match Value::parse(alloc, line, &mut scratch) {
-        Ok(value) => Ok(whole_in(&value, "number")),
+        Ok(value) => Ok(whole_in(&value, member::NUMBER)),
         Err(Error::OutOfMemory) => Err(AllocError),
         Err(_) => Ok(None),
     }
@@ -66,7 +67,7 @@ fn started_at(alloc: Global, line: &str) -> Result<Option<String>, AllocError>
 fn start_in<'a>(value: &Value<'a>) -> Option<&'a str>
     ensures { option_map (λ s. s.now) result ≡ start_in (value_view value.now) }
 {
-    match value.get("started") {
+    match value.get(member::STARTED) {
         Some(member) => member.as_str(),
         None => None,
     }

@@ -8,6 +8,7 @@ ghost use Rattle.web_lines.specs.Numbers.{IsNumberAt, IsWholeNumber, bit, spot_o
 use crate::kind::Kind;
 use crate::labels::{Label, Labels};
 use json::Value;
+use station_names::member;
 
 /// Where a number stands in a line.
 #[derive(Clone, Copy, Debug)]
@@ -50,7 +51,7 @@ pub(crate) fn whole_in(value: &Value<'_>, name: &str) -> Option<u64>
 fn counter_in(value: &Value<'_>, name: &str) -> Option<u64>
     ensures { IsWholeNumber (option_and_then (get name.now) (get (codes "counters") (value_view value.now))) result }
 {
-    match value.get("counters") {
+    match value.get(member::COUNTERS) {
         Some(counters) => whole_in(counters, name),
         None => None,
     }
@@ -91,12 +92,12 @@ pub(crate) fn labels_in<'a>(value: &Value<'a>, kind: Kind, place: Place) -> Opti
     ensures { option_map said_labels result ≡ labels_at kind (spot_of place) (value_view value.now) }
 {
     match kind {
-        Kind::User => one_label(label_in(value, "user", "name")),
-        Kind::Remote => one_label(label_in(value, "remote", "id")),
+        Kind::User => one_label(label_in(value, "user", member::NAME)),
+        Kind::Remote => one_label(label_in(value, "remote", member::ID)),
         Kind::Refusal => refusal_labels(value),
         Kind::Parked | Kind::Transaction => lane_labels(value),
         Kind::Ended => end_labels(value),
-        Kind::Delivered => one_label(label_in(value, "role", "role")),
+        Kind::Delivered => one_label(label_in(value, "role", member::ROLE)),
         Kind::Entity => entity_labels(value, place),
         _ => Some(Labels::Bare),
     }
@@ -117,8 +118,8 @@ fn refusal_labels<'a>(value: &Value<'a>) -> Option<Labels<'a>>
     ensures { option_map said_labels result
         ≡ with_label (label_at (codes "reason") (codes "name") (value_view value.now)) (label_at (codes "fault") (codes "fault") (value_view value.now)) }
 {
-    let reason = label_in(value, "reason", "name")?;
-    match label_in(value, "fault", "fault") {
+    let reason = label_in(value, "reason", member::NAME)?;
+    match label_in(value, "fault", member::FAULT) {
         Some(fault) => Some(Labels::Two(reason, fault)),
         None => Some(Labels::One(reason)),
     }
@@ -129,8 +130,8 @@ fn lane_labels<'a>(value: &Value<'a>) -> Option<Labels<'a>>
     ensures { option_map said_labels result
         ≡ both_labels (label_at (codes "user") (codes "user") (value_view value.now)) (label_at (codes "lane") (codes "lane") (value_view value.now)) }
 {
-    let user = label_in(value, "user", "user")?;
-    let lane = label_in(value, "lane", "lane")?;
+    let user = label_in(value, "user", member::USER)?;
+    let lane = label_in(value, "lane", member::LANE)?;
     Some(Labels::Two(user, lane))
 }
 
@@ -139,9 +140,9 @@ fn end_labels<'a>(value: &Value<'a>) -> Option<Labels<'a>>
     ensures { option_map said_labels result
         ≡ all_labels (label_at (codes "role") (codes "role") (value_view value.now)) (label_at (codes "class") (codes "class") (value_view value.now)) (label_at (codes "condition") (codes "condition") (value_view value.now)) }
 {
-    let role = label_in(value, "role", "role")?;
-    let class = label_in(value, "class", "class")?;
-    let condition = label_in(value, "condition", "condition")?;
+    let role = label_in(value, "role", member::ROLE)?;
+    let class = label_in(value, "class", member::CLASS)?;
+    let condition = label_in(value, "condition", member::CONDITION)?;
     Some(Labels::Three(role, class, condition))
 }
 
@@ -151,8 +152,8 @@ fn entity_labels<'a>(value: &Value<'a>, place: Place) -> Option<Labels<'a>>
 {
     match place {
         Place::Known(_) => {
-            let id = label_in(value, "id", "id")?;
-            let version = label_in(value, "version", "version")?;
+            let id = label_in(value, "id", member::ID)?;
+            let version = label_in(value, "version", member::VERSION)?;
             Some(Labels::Two(id, version))
         }
         _ => Some(Labels::Bare),

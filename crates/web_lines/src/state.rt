@@ -7,6 +7,7 @@ ghost use Rattle.web_lines.specs.States.{count_in_state, name_of_state, place_of
 use crate::kind::Kind;
 use crate::lines::Line;
 use json::{Scratch, Value};
+use station_names::{member, word};
 use std::alloc::{AllocError, Global};
 
 /// The state of a transaction.
@@ -38,7 +39,7 @@ impl State {
             "suspended" => Some(State::Suspended),
             "storing" => Some(State::Storing),
             "closing" => Some(State::Closing),
-            "ended" => Some(State::Ended),
+            word::ENDED => Some(State::Ended),
             _ => None,
         }
     }
@@ -52,7 +53,7 @@ impl State {
             State::Suspended => "suspended",
             State::Storing => "storing",
             State::Closing => "closing",
-            State::Ended => "ended",
+            State::Ended => word::ENDED,
         }
     }
 
@@ -118,7 +119,7 @@ fn state_in(value: &Value<'_>) -> Option<State>
 fn state_name<'a>(value: &Value<'a>) -> Option<&'a str>
     ensures { option_map (λ s. s.now) result ≡ option_and_then as_str (get (codes "state") (value_view value.now)) }
 {
-    match value.get("state") {
+    match value.get(member::STATE) {
         Some(member) => member.as_str(),
         None => None,
     }

@@ -5,6 +5,7 @@ use crate::kind::Kind;
 use crate::kind::Kind::{Entity, Log, Parked, Recorder, Refusal, Remote, User};
 use crate::place::Place;
 use crate::place::Place::{Counted, Known, Member, Truth};
+use station_names::member;
 
 /// A family, the kind of the lines that have its numbers, and where they stand there.
 #[derive(Clone, Copy, Debug)]
@@ -18,22 +19,22 @@ pub(crate) const TOLD: [Told; 36] = [
             "The entity by its number and version; always 1.",
         ),
         Entity,
-        Known("version"),
+        Known(member::VERSION),
     ),
     Told(
         Gauge("cfdp_workers", "Threads that work on transactions."),
         Entity,
-        Member("workers"),
+        Member(member::WORKERS),
     ),
     Told(
         Gauge("cfdp_control_clients", "Clients of the control socket."),
         Entity,
-        Member("clients"),
+        Member(member::CLIENTS),
     ),
     Told(
         Counter("cfdp_events_total", "Events since the start."),
         Entity,
-        Member("events"),
+        Member(member::EVENTS),
     ),
     Told(
         Counter(
@@ -41,27 +42,27 @@ pub(crate) const TOLD: [Told; 36] = [
             "Datagrams read from the socket.",
         ),
         Entity,
-        Counted("datagrams_in"),
+        Counted(member::DATAGRAMS_IN),
     ),
     Told(
         Counter("cfdp_received_bytes_total", "Octets read from the socket."),
         Entity,
-        Counted("octets_in"),
+        Counted(member::OCTETS_IN),
     ),
     Told(
         Counter("cfdp_datagrams_sent_total", "Datagrams sent."),
         Entity,
-        Counted("datagrams_out"),
+        Counted(member::DATAGRAMS_OUT),
     ),
     Told(
         Counter("cfdp_sent_bytes_total", "Octets sent."),
         Entity,
-        Counted("octets_out"),
+        Counted(member::OCTETS_OUT),
     ),
     Told(
         Counter("cfdp_failed_sends_total", "PDUs that were not sent."),
         Entity,
-        Counted("failed_sends"),
+        Counted(member::FAILED_SENDS),
     ),
     Told(
         Counter(
@@ -69,7 +70,7 @@ pub(crate) const TOLD: [Told; 36] = [
             "Reads from the socket that failed.",
         ),
         Entity,
-        Counted("failed_reads"),
+        Counted(member::FAILED_READS),
     ),
     Told(
         Counter(
@@ -77,7 +78,7 @@ pub(crate) const TOLD: [Told; 36] = [
             "Workers that stopped reading because their socket failed.",
         ),
         Entity,
-        Counted("ended_reads"),
+        Counted(member::ENDED_READS),
     ),
     Told(
         Counter(
@@ -85,12 +86,12 @@ pub(crate) const TOLD: [Told; 36] = [
             "Datagrams from addresses that the configuration does not have.",
         ),
         Entity,
-        Counted("foreign_datagrams"),
+        Counted(member::FOREIGN_DATAGRAMS),
     ),
     Told(
         Counter("cfdp_decode_faults_total", "Datagrams that are no PDU."),
         Entity,
-        Counted("decode_faults"),
+        Counted(member::DECODE_FAULTS),
     ),
     Told(
         Counter(
@@ -98,7 +99,7 @@ pub(crate) const TOLD: [Told; 36] = [
             "Datagrams, commands and timers that the entity refused.",
         ),
         Entity,
-        Counted("refused"),
+        Counted(member::REFUSED),
     ),
     Told(
         Counter(
@@ -106,7 +107,7 @@ pub(crate) const TOLD: [Told; 36] = [
             "Received files that the store kept.",
         ),
         Entity,
-        Counted("stored"),
+        Counted(member::STORED),
     ),
     Told(
         Counter(
@@ -114,7 +115,7 @@ pub(crate) const TOLD: [Told; 36] = [
             "Received files that the store did not keep.",
         ),
         Entity,
-        Counted("failed_stores"),
+        Counted(member::FAILED_STORES),
     ),
     Told(
         Counter(
@@ -122,12 +123,12 @@ pub(crate) const TOLD: [Told; 36] = [
             "Clients of the control socket that were cut because they did not read.",
         ),
         Entity,
-        Counted("dropped_clients"),
+        Counted(member::DROPPED_CLIENTS),
     ),
     Told(
         Gauge("cfdp_log_failing", "Whether events do not reach the log."),
         Log,
-        Truth("failing"),
+        Truth(member::FAILING),
     ),
     Told(
         Counter(
@@ -135,7 +136,7 @@ pub(crate) const TOLD: [Told; 36] = [
             "Events written to the log.",
         ),
         Log,
-        Member("written"),
+        Member(member::WRITTEN),
     ),
     Told(
         Counter(
@@ -143,12 +144,12 @@ pub(crate) const TOLD: [Told; 36] = [
             "Events lost because the log could not be written.",
         ),
         Log,
-        Member("lost"),
+        Member(member::LOST),
     ),
     Told(
         Gauge("cfdp_queue_bundles", "Bundles that wait in a user's queue."),
         User,
-        Member("waiting"),
+        Member(member::WAITING),
     ),
     Told(
         Gauge(
@@ -156,7 +157,7 @@ pub(crate) const TOLD: [Told; 36] = [
             "Bundles that a user's queue can hold.",
         ),
         User,
-        Member("capacity"),
+        Member(member::CAPACITY),
     ),
     Told(
         Gauge(
@@ -164,7 +165,7 @@ pub(crate) const TOLD: [Told; 36] = [
             "Datagrams that wait until their lane can take them.",
         ),
         Parked,
-        Member("datagrams"),
+        Member(member::DATAGRAMS),
     ),
     Told(
         Gauge(
@@ -172,7 +173,7 @@ pub(crate) const TOLD: [Told; 36] = [
             "Transactions of which datagrams wait for a lane.",
         ),
         Parked,
-        Member("transactions"),
+        Member(member::TRANSACTIONS),
     ),
     Told(
         Gauge(
@@ -180,7 +181,7 @@ pub(crate) const TOLD: [Told; 36] = [
             "Room that the datagrams that wait for a lane take up.",
         ),
         Parked,
-        Member("octets"),
+        Member(member::OCTETS),
     ),
     Told(
         Counter(
@@ -188,7 +189,7 @@ pub(crate) const TOLD: [Told; 36] = [
             "Datagrams for a lane that were dropped for want of room.",
         ),
         Parked,
-        Member("dropped"),
+        Member(member::DROPPED),
     ),
     Told(
         Gauge(
@@ -196,7 +197,7 @@ pub(crate) const TOLD: [Told; 36] = [
             "Whether sending to a remote entity is held.",
         ),
         Remote,
-        Truth("held"),
+        Truth(member::HELD),
     ),
     Told(
         Counter(
@@ -204,7 +205,7 @@ pub(crate) const TOLD: [Told; 36] = [
             "Datagrams from a remote entity.",
         ),
         Remote,
-        Member("datagrams_in"),
+        Member(member::DATAGRAMS_IN),
     ),
     Told(
         Counter(
@@ -212,7 +213,7 @@ pub(crate) const TOLD: [Told; 36] = [
             "Octets from a remote entity.",
         ),
         Remote,
-        Member("octets_in"),
+        Member(member::OCTETS_IN),
     ),
     Told(
         Counter(
@@ -220,12 +221,12 @@ pub(crate) const TOLD: [Told; 36] = [
             "Datagrams to a remote entity.",
         ),
         Remote,
-        Member("datagrams_out"),
+        Member(member::DATAGRAMS_OUT),
     ),
     Told(
         Counter("cfdp_remote_sent_bytes_total", "Octets to a remote entity."),
         Remote,
-        Member("octets_out"),
+        Member(member::OCTETS_OUT),
     ),
     Told(
         Counter(
@@ -233,12 +234,12 @@ pub(crate) const TOLD: [Told; 36] = [
             "PDUs for a remote entity that were not sent.",
         ),
         Remote,
-        Member("failed_sends"),
+        Member(member::FAILED_SENDS),
     ),
     Told(
         Counter("cfdp_refused_datagrams_total", "Refusals by reason."),
         Refusal,
-        Member("count"),
+        Member(member::COUNT),
     ),
     Told(
         Counter(
@@ -246,7 +247,7 @@ pub(crate) const TOLD: [Told; 36] = [
             "Recordings that were written.",
         ),
         Recorder,
-        Member("kept"),
+        Member(member::KEPT),
     ),
     Told(
         Counter(
@@ -254,7 +255,7 @@ pub(crate) const TOLD: [Told; 36] = [
             "Transactions that were not recorded because their journal was gone.",
         ),
         Recorder,
-        Member("missed"),
+        Member(member::MISSED),
     ),
     Told(
         Counter(
@@ -262,6 +263,6 @@ pub(crate) const TOLD: [Told; 36] = [
             "Recordings that could not be made or written.",
         ),
         Recorder,
-        Member("failed"),
+        Member(member::FAILED),
     ),
 ];

@@ -3,6 +3,7 @@ use crate::families::Family::{Counter, Gauge};
 use crate::kind::Kind::{Delivered, Ended, Remote, Store, Transaction};
 use crate::place::Place::Member;
 use crate::told::Told;
+use station_names::member;
 
 /// The families of a station that counts.
 pub(crate) const TOLD_COUNTS: [Told; 6] = [
@@ -12,7 +13,7 @@ pub(crate) const TOLD_COUNTS: [Told; 6] = [
             "Transactions that ended, by role, class and condition code.",
         ),
         Ended,
-        Member("count"),
+        Member(member::COUNT),
     ),
     Told(
         Counter(
@@ -20,12 +21,12 @@ pub(crate) const TOLD_COUNTS: [Told; 6] = [
             "Files that came whole and were retained.",
         ),
         Delivered,
-        Member("files"),
+        Member(member::FILES),
     ),
     Told(
         Counter("cfdp_delivered_bytes_total", "Octets of these files."),
         Delivered,
-        Member("octets"),
+        Member(member::OCTETS),
     ),
     Told(
         Gauge(
@@ -33,7 +34,7 @@ pub(crate) const TOLD_COUNTS: [Told; 6] = [
             "Octets that the file lacks which a lane receives.",
         ),
         Transaction,
-        Member("missing"),
+        Member(member::MISSING),
     ),
     Told(
         Gauge(
@@ -41,7 +42,7 @@ pub(crate) const TOLD_COUNTS: [Told; 6] = [
             "How long ago a PDU came from a remote entity.",
         ),
         Remote,
-        Member("silence"),
+        Member(member::SILENCE),
     ),
     Told(
         Gauge(
@@ -49,6 +50,6 @@ pub(crate) const TOLD_COUNTS: [Told; 6] = [
             "How long storing the last received file took.",
         ),
         Store,
-        Member("microseconds"),
+        Member(member::MICROSECONDS),
     ),
 ];

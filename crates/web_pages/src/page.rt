@@ -67,9 +67,9 @@ footer { max-width: 1600px; margin: 24px auto; padding: 0 16px; color: var(--dim
 <svg id="chart" viewBox="0 0 600 100" preserveAspectRatio="none" role="img" aria-labelledby="chart-text"><path id="chart-in" class="way in"></path><path id="chart-out" class="way out"></path></svg>
 <p id="chart-text" class="quiet"></p></section>
 <div class="bar" role="search"><label>search in the tables <input id="find" type="search" size="24" autocomplete="off"></label></div>
-<section aria-labelledby="h-active"><h2 id="h-active">Transactions under way</h2>
+<section class="wide" aria-labelledby="h-active"><h2 id="h-active">Transactions under way</h2>
 <div class="scroll" tabindex="0" role="region" aria-labelledby="h-active"><table id="active"></table></div></section>
-<section aria-labelledby="h-ended"><h2 id="h-ended">Transactions that ended last</h2>
+<section class="wide" aria-labelledby="h-ended"><h2 id="h-ended">Transactions that ended last</h2>
 <p id="ended-news" class="quiet" aria-live="polite"></p>
 <div class="scroll" tabindex="0" role="region" aria-labelledby="h-ended"><table id="ended"></table></div></section>
 <div class="columns">
@@ -83,7 +83,7 @@ footer { max-width: 1600px; margin: 24px auto; padding: 0 16px; color: var(--dim
 <div class="scroll" tabindex="0" role="region" aria-labelledby="h-reading"><table id="reading"></table></div></section>
 <section id="s-storing" class="hidden" aria-labelledby="h-storing"><h2 id="h-storing">Files being stored</h2>
 <div class="scroll" tabindex="0" role="region" aria-labelledby="h-storing"><table id="storing"></table></div></section>
-<section id="s-parked" class="hidden" aria-labelledby="h-parked"><h2 id="h-parked">Parked</h2>
+<section id="s-parked" class="wide hidden" aria-labelledby="h-parked"><h2 id="h-parked">Parked</h2>
 <div class="scroll" tabindex="0" role="region" aria-labelledby="h-parked"><table id="parked"></table></div></section>
 <section class="wide" aria-labelledby="h-refusals"><h2 id="h-refusals">Refusals</h2>
 <div class="scroll" tabindex="0" role="region" aria-labelledby="h-refusals"><table id="refusals"></table></div></section>

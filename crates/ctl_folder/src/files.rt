@@ -1,31 +1,31 @@
 //! The files of the watched folder, as far as they are known.
-use crate::hot_folder::Found;
+use crate::folder::Found;
 use ctl_views::{Place, Transaction};
 use ctl_watch::{Sight, Standing, Watched, next_to_send, watched_now};
 use std::alloc::{AllocError, Global};
 use std::collections::BTreeMap;
 use std::mem;
 
-/// A file of the folder.
+// A file of the folder.
 #[derive(Clone, Copy)]
-pub(crate) struct HotFile {
-    pub(crate) watched: Watched,
-    /// How it was when the server got it.
-    pub(crate) given: Sight,
-    /// Where the server has it, if it is under way.
+struct HotFile {
+    watched: Watched,
+    // How it was when the server got it.
+    given: Sight,
+    // Where the server has it, if it is under way.
     place: Option<Place>,
 }
 
 /// The files of the folder, in the order of their names.
 #[derive(Drop)]
-pub(crate) struct HotFiles {
+pub struct HotFiles {
     alloc: Global,
     files: BTreeMap<String, HotFile>,
 }
 
 impl HotFiles {
     /// Without any file.
-    pub(crate) fn new(alloc: Global) -> HotFiles {
+    pub fn new(alloc: Global) -> HotFiles {
         HotFiles {
             alloc,
             files: BTreeMap::new(alloc),
@@ -33,7 +33,7 @@ impl HotFiles {
     }
 
     /// Takes in what is in the folder now. A file that is gone is forgotten, unless it is under way.
-    pub(crate) fn look(&mut self, found: Vec<Found>, now: u64) -> Result<(), AllocError> {
+    pub fn look(&mut self, found: Vec<Found>, now: u64) -> Result<(), AllocError> {
         let mut before = mem::replace(&mut self.files, BTreeMap::new(self.alloc));
         for one in found {
             let old = before.remove(one.name.as_str());
@@ -55,7 +55,7 @@ impl HotFiles {
     }
 
     /// The name of the file that is sent next, and how it was seen; `None` if none is ready.
-    pub(crate) fn next(&self, now: u64) -> Result<Option<(String, Sight)>, AllocError> {
+    pub fn next(&self, now: u64) -> Result<Option<(String, Sight)>, AllocError> {
         let mut watched = Vec::new(self.alloc);
         for file in self.files.values() {
             watched.push(file.watched)?;
@@ -70,7 +70,7 @@ impl HotFiles {
     }
 
     /// Notes that the server has a file.
-    pub(crate) fn give(&mut self, name: &str, place: Place) {
+    pub fn give(&mut self, name: &str, place: Place) {
         if let Some(file) = self.files.get_mut(name) {
             file.watched.standing = Standing::UnderWay;
             file.given = file.watched.sight;
@@ -79,12 +79,12 @@ impl HotFiles {
     }
 
     /// Notes that a file isn't sent as it is.
-    pub(crate) fn refuse(&mut self, name: &str) {
+    pub fn refuse(&mut self, name: &str) {
         self.stand(name, Standing::Refused);
     }
 
     /// Notes that a file is to be sent again.
-    pub(crate) fn send_again(&mut self, name: &str) {
+    pub fn send_again(&mut self, name: &str) {
         self.stand(name, Standing::Waiting);
     }
 
@@ -96,12 +96,12 @@ impl HotFiles {
     }
 
     /// Forgets a file.
-    pub(crate) fn forget(&mut self, name: &str) {
+    pub fn forget(&mut self, name: &str) {
         let _file = self.files.remove(name);
     }
 
     /// Forgets where the server has files: all of them are to be sent.
-    pub(crate) fn forget_places(&mut self) {
+    pub fn forget_places(&mut self) {
         for file in self.files.values_mut() {
             if is_under_way(file) {
                 file.watched.standing = Standing::Waiting;
@@ -111,7 +111,7 @@ impl HotFiles {
     }
 
     /// Notes that the file with this number in the outbox is being sent by a transaction.
-    pub(crate) fn start(&mut self, number: u64, transaction: Option<Transaction>) {
+    pub fn start(&mut self, number: u64, transaction: Option<Transaction>) {
         let Some(transaction) = transaction else {
             return;
         };
@@ -123,7 +123,7 @@ impl HotFiles {
     }
 
     /// The file with this number in the outbox: its name, and how it was when the server got it.
-    pub(crate) fn queued(&self, number: u64) -> Result<Option<(String, Sight)>, AllocError> {
+    pub fn queued(&self, number: u64) -> Result<Option<(String, Sight)>, AllocError> {
         for (name, file) in self.files.iter() {
             if is_queued(file.place, number) {
                 return Ok(Some((name.clone()?, file.given)));
@@ -133,7 +133,7 @@ impl HotFiles {
     }
 
     /// The file of a transaction: its name, and how it was when the server got it.
-    pub(crate) fn sent(
+    pub fn sent(
         &self,
         transaction: Option<Transaction>,
     ) -> Result<Option<(String, Sight)>, AllocError> {
@@ -146,7 +146,7 @@ impl HotFiles {
     }
 
     /// Whether a file is to be sent, or under way.
-    pub(crate) fn is_busy(&self) -> bool {
+    pub fn is_busy(&self) -> bool {
         self.files
             .values()
             .any(|file| !matches!(file.watched.standing, Standing::Refused))

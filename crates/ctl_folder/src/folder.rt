@@ -8,31 +8,31 @@ use std::time::UNIX_EPOCH;
 use std::{fs, io};
 
 /// Where files go that arrived, and those that didn't: folders in the folder.
-pub(crate) const SENT: &str = "sent";
+pub const SENT: &str = "sent";
 
-pub(crate) const FAILED: &str = "failed";
+pub const FAILED: &str = "failed";
 
 // How many names are tried for a file that has ended.
 const NAMES: u64 = 10_000;
 
 /// A plain file in the folder, whose name doesn't begin with a dot.
 #[derive(Drop)]
-pub(crate) struct Found {
-    pub(crate) name: String,
-    pub(crate) size: u64,
-    pub(crate) modified: u64,
+pub struct Found {
+    pub name: String,
+    pub size: u64,
+    pub modified: u64,
 }
 
 /// What is in the folder.
 #[derive(Drop)]
-pub(crate) struct Listing {
-    pub(crate) files: Vec<Found>,
+pub struct Listing {
+    pub files: Vec<Found>,
     /// Whether a name isn't UTF-8.
-    pub(crate) has_odd: bool,
+    pub has_odd: bool,
 }
 
 /// Lists the folder.
-pub(crate) fn list<R: Files + AllocGlobal + Copy + Drop>(
+pub fn list<R: Files + AllocGlobal + Copy + Drop>(
     rt: &R,
     alloc: Global,
     folder: &str,
@@ -88,7 +88,7 @@ fn written_at(metadata: &Metadata) -> u64 {
 }
 
 /// Whether a file of the folder is still as it was seen.
-pub(crate) fn is_unchanged<R: Files>(
+pub fn is_unchanged<R: Files>(
     rt: &R,
     alloc: Global,
     folder: &str,
@@ -108,7 +108,7 @@ fn is_as_seen<R: Files>(rt: &R, path: &str, sight: Sight) -> Option<bool> {
 }
 
 /// Whether the folder `sent` has a file with this name, size and time.
-pub(crate) fn was_sent<R: Files>(
+pub fn was_sent<R: Files>(
     rt: &R,
     alloc: Global,
     folder: &str,
@@ -128,7 +128,7 @@ pub(crate) fn was_sent<R: Files>(
 }
 
 /// Makes the folders for files that have ended, if they aren't there.
-pub(crate) fn make_folders<R: Files>(rt: &R, alloc: Global, folder: &str) -> io::Result<()> {
+pub fn make_folders<R: Files>(rt: &R, alloc: Global, folder: &str) -> io::Result<()> {
     for name in [SENT, FAILED] {
         let path = format!(in alloc; "{folder}/{name}")?;
         match fs::create_dir(rt, path.as_str()) {
@@ -141,7 +141,7 @@ pub(crate) fn make_folders<R: Files>(rt: &R, alloc: Global, folder: &str) -> io:
 
 /// Moves a file of the folder into one of those folders, under the first of its names that is free. If there is a reason, a file
 /// beside it has this text.
-pub(crate) fn keep_file<R: Files>(
+pub fn keep_file<R: Files>(
     rt: &R,
     alloc: Global,
     folder: &str,

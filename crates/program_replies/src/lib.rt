@@ -1,0 +1,6 @@
+//! What a program replies to a command line by which nothing starts: its help, its version, or its fault.
+#![tactic(auto)]
+
+mod replies;
+
+pub use replies::{asked_text, fault_of, tell_words_fault};
