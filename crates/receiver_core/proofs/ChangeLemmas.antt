@@ -1,11 +1,11 @@
 -- What changes bring.
-use Rattle.std.proofs.Common.{◌≡◌, ℕ, ◌+◌, ◌-◌, ◌<◌, ◌≤◌, max, Bool, true, false, not, ◌&&◌, length, Option, Some, None, eqb, refl, sym, ap, ◌∙◌, arith, inl, inr, rules, Ok}
+use Rattle.std.proofs.Common.{◌≡◌, ℕ, ◌+◌, ◌-◌, ◌<◌, ◌≤◌, max, Bool, true, false, not, ◌&&◌, ◌||◌, length, Option, Some, None, eqb, refl, sym, ap, ◌∙◌, arith, inl, inr, rules, Ok}
 use Rattle.std.proofs.Math.Path.{fun_ext}
 use Rattle.std.proofs.lemmas.Bool.{cases_Bool, cases_lt, le-leb, lt-leb, eqb-true}
 use Rattle.std.proofs.lemmas.Option.{slice_get_past}
 use Rattle.std.specs.Prelude.{is_some}
 use Rattle.std.specs.List.{All}
-use Rattle.cfdp_types.specs.Steps.{older_or}
+use Rattle.cfdp_types.specs.Steps.{newer_or, older_or}
 use Rattle.gap_list.specs.Covered.{covered}
 use Rattle.gap_list.specs.Runs.{is_within, new_runs}
 use Rattle.gap_list.proofs.SetLemmas.{new_runs-same, filled-runs_of}
@@ -22,17 +22,16 @@ use Rattle.receiver_table.specs.Answers.{answer_at}
 use Rattle.receiver_parts.specs.ControlBlock.{state_from, IsSmall}
 use Rattle.receiver_core.specs.declared.plan.Plan.{Plan}
 use Rattle.receiver_parts.specs.declared.control.ControlBlock.{ControlBlock}
-use Rattle.receiver_parts.specs.ReceivedFile.{received_of, room_of, with_segment, end_of, IsSegmentOf}
-use Rattle.receiver_parts.specs.Offsets.{IsInside}
+use Rattle.receiver_parts.specs.ReceivedFile.{received_of, received_with, room_of, with_segment, IsSegmentOf}
+use Rattle.receiver_parts.specs.Offsets.{IsInside, octet_in}
 use Rattle.receiver_parts.specs.Steps.{IsWithEvent}
-use Rattle.receiver_parts.specs.FileChange.{received_after, covered_after, word_after, FitsFile, HasRoom, IsReady, runs_in, segment_of, metadata_after}
+use Rattle.receiver_parts.specs.FileChange.{received_after, covered_after, word_after, FitsFile, HasRoom, IsReady, runs_in, metadata_after}
 use Rattle.receiver_core.specs.Core.{shown, reception_of, IsChange, IsSame, IsPlanOf, plan_answer}
 use Rattle.receiver_parts.specs.declared.received_file.ReceivedFile.{ReceivedFile}
 use Rattle.receiver_parts.specs.declared.received_file.NewSegment.{NewSegment}
 use Rattle.receiver_parts.specs.declared.file_change.FileChange.{FileChange}
 use Rattle.receiver_parts.specs.declared.file_change.FileChange.TheVariants as change
 use Rattle.receiver_core.specs.declared.receiver.ReceiverCore.{ReceiverCore}
-use Rattle.receiver_parts.proofs.LayLemmas.{came_with}
 use Rattle.receiver_parts.proofs.SumLemmas.{none_is}
 
 older_none : {A : Type 0} (o : Option A) → o ≡ older_or o None
@@ -43,21 +42,24 @@ older_none (Some x) = refl
 pub covers : (core : ReceiverCore) (i : ℕ) → covered core.file.gaps i ≡ is_received (shown core) i
 covers core i = sym (core.file.came i)
 
-runs_are : (core : ReceiverCore) (file_data : FileData) (segment : NewSegment) → segment.file_data ≡ file_data → IsSegmentOf core.file segment
+runs_are : (core : ReceiverCore) (file_data : FileData) (segment : NewSegment)
+    → segment.runs.items ≡ new_runs (covered core.file.gaps) file_data.offset (file_data.offset + length file_data.octets)
     → segment.runs.items ≡ added_runs (shown core) (Some file_data)
-runs_are core file_data segment is fits =
-    fits.runs ∙ ap (λ (d : FileData). new_runs (covered core.file.gaps) d.offset (d.offset + length d.octets)) is
+runs_are core file_data segment runs =
+    runs
     ∙ new_runs-same (covered core.file.gaps) (is_received (shown core)) file_data.offset (file_data.offset + length file_data.octets) (covers core)
 
 -- a segment of the file
-pub piece_change : (core : ReceiverCore) (file_data : FileData) (segment : NewSegment) → segment.file_data ≡ file_data → IsSegmentOf core.file segment
+pub piece_change : (core : ReceiverCore) (file_data : FileData) (segment : NewSegment)
+    → segment.runs.items ≡ new_runs (covered core.file.gaps) file_data.offset (file_data.offset + length file_data.octets)
+    → ((i : ℕ) → received_with core.file segment i ≡ with_segment (received_of core.file) (Some file_data) i) → IsSegmentOf core.file segment
     → IsChange core (Some (body.FileData file_data)) (change.NewSegment segment)
-piece_change core file_data segment is fits = record {
+piece_change core file_data segment runs received fits = record {
   metadata = older_none core.metadata;
-  file_data = ap Some is;
+  received = received;
   fits = fits;
-  runs = runs_are core file_data segment is fits;
-  more = ap (λ runs. not (eqb (length runs) 0)) (runs_are core file_data segment is fits);
+  runs = runs_are core file_data segment runs;
+  more = ap (λ runs. not (eqb (length runs) 0)) (runs_are core file_data segment runs);
 }
 
 -- the new runs of a change have an offset each
@@ -71,15 +73,15 @@ runs_filled core b c is = rw is.runs (filled_runs (shown core) _)
 -- ---- what came, with a change
 
 -- the offsets of octets that came are those that are covered, after a change
-pub came_after : (file : ReceivedFile) (c : FileChange) (i : ℕ) → is_some (received_after file c i) ≡ covered_after file c i
-came_after file change.Nothing i = ap is_some (sym (older_none (received_of file i))) ∙ file.came i
-came_after file (change.Metadata m) i = ap is_some (sym (older_none (received_of file i))) ∙ file.came i
-came_after file (change.NewSegment segment) i = came_with (received_of file) (covered file.gaps) segment.file_data i (file.came i)
+came_after : (file : ReceivedFile) (c : FileChange) → FitsFile file c → (i : ℕ) → is_some (received_after file c i) ≡ covered_after file c i
+came_after file change.Nothing fits i = file.came i
+came_after file (change.Metadata m) fits i = file.came i
+came_after file (change.NewSegment segment) fits i = fits.came i
 
 -- the checksum after a change is that of what came
 summed_after : (file : ReceivedFile) (c : FileChange) → FitsFile file c → IsSumOf (received_after file c) (word_after file c)
-summed_after file change.Nothing fits = IsSumOf-same (received_of file) (received_after file change.Nothing) file.sum (λ i. older_none (received_of file i)) file.summed
-summed_after file (change.Metadata m) fits = IsSumOf-same (received_of file) (received_after file (change.Metadata m)) file.sum (λ i. older_none (received_of file i)) file.summed
+summed_after file change.Nothing fits = file.summed
+summed_after file (change.Metadata m) fits = file.summed
 summed_after file (change.NewSegment segment) fits = fits.sum
 
 -- an event brings nothing past its end
@@ -114,9 +116,10 @@ pub ready : (core : ReceiverCore) (event : What) (more : Bool) (now : ControlBlo
     → IsChange core (body_of_event event) c → IsSmall now → IsReady core.file now c
 ready core event more now c is brings small = record {
   small = small;
+  came = came_after core.file c brings.fits;
   summed = summed_after core.file c brings.fits;
   reached = λ i past.
-      ap (λ d. older_or (received_of core.file i) (octet_at d i)) brings.file_data
+      brings.received i
       ∙ past_progress core (file_data_of (body_of_event event)) i (rw is.progress at past);
 }
 
@@ -154,10 +157,20 @@ same_shown old new same =
 pub segment_still : (old new : ReceivedFile) (segment : NewSegment) → ((i : ℕ) → covered new.gaps i ≡ covered old.gaps i)
     → ((i : ℕ) → received_of new i ≡ received_of old i) → IsSegmentOf old segment → IsSegmentOf new segment
 segment_still old new segment same received fits = record {
-  runs = fits.runs ∙ new_runs-same (covered old.gaps) (covered new.gaps) segment.file_data.offset (end_of segment) (λ i. sym (same i));
-  sum = IsSumOf-same (with_segment (received_of old) (Some segment.file_data)) (with_segment (received_of new) (Some segment.file_data)) segment.sum
-      (λ i. ap (λ o. older_or o (octet_at (Some segment.file_data) i)) (sym (received i))) fits.sum;
+  came = λ i.
+      ap (λ o. is_some (newer_or (octet_in segment.pieces.items i) o)) (received i)
+      ∙ fits.came i
+      ∙ ap (λ b. b || is_within segment.start segment.end i) (sym (same i));
+  sum = IsSumOf-same (received_with old segment) (received_with new segment) segment.sum
+      (λ i. ap (λ o. newer_or (octet_in segment.pieces.items i) o) (sym (received i))) fits.sum;
 }
+
+-- what came is the same with more room, after a change
+received_still : (old new : ReceivedFile) (c : FileChange) → ((i : ℕ) → received_of new i ≡ received_of old i)
+    → (i : ℕ) → received_after new c i ≡ received_after old c i
+received_still old new change.Nothing received i = received i
+received_still old new (change.Metadata m) received i = received i
+received_still old new (change.NewSegment segment) received i = ap (λ o. newer_or (octet_in segment.pieces.items i) o) (received i)
 
 pub fits_still : (old new : ReceivedFile) (c : FileChange) → ((i : ℕ) → covered new.gaps i ≡ covered old.gaps i)
     → ((i : ℕ) → received_of new i ≡ received_of old i) → FitsFile old c → FitsFile new c
@@ -176,7 +189,10 @@ change_still old new b c same is =
     let shows = same_shown old new same in
     record {
       metadata = ap (λ m. metadata_after m c) same.metadata ∙ is.metadata ∙ ap (λ m. older_or m (metadata_of b)) (sym same.metadata);
-      file_data = is.file_data;
+      received = λ i.
+          received_still old.file new.file c same.received i
+          ∙ is.received i
+          ∙ ap (λ o. older_or o (octet_at (file_data_of b) i)) (sym (same.received i));
       fits = fits_still old.file new.file c same.gaps same.received is.fits;
       runs = is.runs ∙ ap (λ s. added_runs s (file_data_of b)) (sym shows);
       more = is.more ∙ ap (λ s. brings_more s b) (sym shows);
@@ -191,7 +207,7 @@ plan_still old new plan event same is =
       answered = record {
         accepted = ap (λ r. answer_at r (shown new) event) same.reception ∙ ap (λ s. answer_at (reception_of old) s event) shows ∙ is.answered.accepted;
         follows = ap (λ m. state_with old (metadata_after m plan.step.value.change) (received_after new.file plan.step.value.change) plan.step.value.next) same.metadata
-            ∙ ap (λ r. state_with old (metadata_after old.metadata plan.step.value.change) r plan.step.value.next) (fun_ext (λ i. ap (λ o. older_or o (octet_at (segment_of plan.step.value.change) i)) (same.received i)))
+            ∙ ap (λ r. state_with old (metadata_after old.metadata plan.step.value.change) r plan.step.value.next) (fun_ext (received_still old.file new.file plan.step.value.change same.received))
             ∙ is.answered.follows
             ∙ ap (λ s. step s (record { event = event; answer = plan_answer plan })) (sym shows);
       };

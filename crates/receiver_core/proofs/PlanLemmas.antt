@@ -30,12 +30,11 @@ use Rattle.pdu_values.specs.declared.pdu.Body.TheVariants as body
 use Rattle.pdu_values.specs.declared.bodies.Eof.{Eof}
 use Rattle.pdu_values.specs.declared.bodies.Finished.{Finished}
 use Rattle.pdu_values.specs.declared.bodies.Metadata.{Metadata}
-use Rattle.receiver_table.specs.Reception.{Reception, State, step, is_storing, eof_of, octet_at, finished_among, finished_in, tries_after, waiting_after, brings_more}
+use Rattle.receiver_table.specs.Reception.{Reception, State, step, is_storing, eof_of, finished_among, finished_in, tries_after, waiting_after, brings_more}
 use Rattle.receiver_table.specs.Refusals.{refusal_at, is_stale_store, waits_for_store, is_misplaced, is_body_too_large, is_too_large, is_full}
 use Rattle.receiver_table.specs.Answers as table
 use Rattle.receiver_table.specs.Answers.{response_to, with_event, without_timers, with_timers, accepted_at, answer_at, effect_of, bodies_of, pdu_to_sender, nak_of, ack_of, if_there, if_so, requests_of}
 use Rattle.receiver_parts.specs.ControlBlock.{state_from, bare, eof_size, IsSmall, IsSound}
-use Rattle.receiver_parts.specs.ReceivedFile.{received_of}
 use Rattle.receiver_parts.specs.Response.{IsResponse, response_value}
 use Rattle.receiver_parts.specs.FileChange.{metadata_after, received_after, HasRoom, adds}
 use Rattle.receiver_core.specs.Core.{shown, reception_of, now_state, IsChange, IsPlanOf, plan_answer}
@@ -103,7 +102,7 @@ pub is_with_event : (core : ReceiverCore) (event : What) (c : FileChange) (now :
 unfolding step
 is_with_event core event c now is change =
     same_state (now_state core now c) _ is.entries
-    (λ i. ap (λ d. older_or (received_of core.file i) (octet_at d i)) change.file_data)
+    change.received
     is.progress change.metadata is.closure is.eof is.waiting is.finished is.paused
     (λ kind. ap (λ a. stamp_of a kind) is.armed)
     (λ kind. is.tries kind ∙ tries_same (shown core) event [] [] [] None (adds c) kind change.more)
@@ -181,7 +180,7 @@ follows core event now response c plan is change planned =
     sym (ap finished_among planned.pdus ∙ finished_is (reception_of core) (now_state core now c) (list_any is_end response.inds) (response_value response)) in
     same_state (state_from plan.step.value.next (metadata_after core.metadata plan.step.value.change) (received_after core.file plan.step.value.change)) _
     (next.entries ∙ is.entries)
-    (λ i. ap (λ x. received_after core.file x i) planned.change_is ∙ ap (λ d. older_or (received_of core.file i) (octet_at d i)) change.file_data)
+    (λ i. ap (λ x. received_after core.file x i) planned.change_is ∙ change.received i)
     (next.progress ∙ is.progress)
     (ap (λ x. metadata_after core.metadata x) planned.change_is ∙ change.metadata)
     (next.closure ∙ is.closure)

@@ -13,11 +13,11 @@ use Rattle.receiver_table.specs.Reception.{Reception, State, Entry, step, state_
 use Rattle.receiver_table.specs.Answers.{answer_at}
 use Rattle.receiver_laws.specs.LegalReceptions.{BodyOpens}
 use Rattle.receiver_parts.specs.ControlBlock.{state_from, IsSound}
-use Rattle.receiver_parts.specs.ReceivedFile.{received_of, room_of}
+use Rattle.receiver_parts.specs.ReceivedFile.{received_of, with_segment, room_of}
 use Rattle.txn_events.specs.declared.answer.Answer.{Answer}
 pub use Rattle.txn_events.specs.Logs.{IsWhy}
 use Rattle.txn_events.specs.Logs.{StandsAt, IsAnswered}
-use Rattle.receiver_parts.specs.FileChange.{metadata_after, segment_of, received_after, FitsFile, HasRoom, runs_in, adds}
+use Rattle.receiver_parts.specs.FileChange.{metadata_after, received_after, FitsFile, HasRoom, runs_in, adds}
 use Rattle.receiver_parts.specs.declared.file_change.FileChange.{FileChange}
 use Rattle.receiver_core.specs.declared.plan.Plan.{Plan}
 use Rattle.receiver_core.specs.declared.receiver.ReceiverCore.{ReceiverCore}
@@ -61,7 +61,7 @@ is_request _ = true
 -- the change that a body brings
 pub record IsChange (core : ReceiverCore) (b : Option Body) (c : FileChange) : Type 0 where
   pub metadata : metadata_after core.metadata c ≡ older_or core.metadata (metadata_of b)
-  pub file_data : segment_of c ≡ file_data_of b
+  pub received : (i : ℕ) → received_after core.file c i ≡ with_segment (received_of core.file) (file_data_of b) i
   pub fits : FitsFile core.file c
   pub runs : runs_in c ≡ added_runs (shown core) (file_data_of b)
   pub more : adds c ≡ brings_more (shown core) b

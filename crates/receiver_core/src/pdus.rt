@@ -22,8 +22,7 @@ impl ReceiverCore {
     ghost use Rattle.pdu_values.specs.declared.pdu.Body.TheVariants as body;
     ghost use Rattle.receiver_table.specs.Answers.{pdu_to_sender, ack_of, nak_of, if_there, if_so, bodies_of};
     ghost use Rattle.receiver_parts.specs.Response.{response_value};
-    ghost use Rattle.receiver_parts.specs.FileChange.{metadata_after};
-    ghost use Rattle.receiver_parts.specs.ControlBlock.{IsSmall};
+    ghost use Rattle.receiver_parts.specs.FileChange.{metadata_after, IsReady};
     ghost use Rattle.receiver_core.specs.Core.{reception_of, now_state};
 
     // The header of the PDUs that the reception sends.
@@ -73,7 +72,7 @@ impl ReceiverCore {
 
     // The NAK for what is missing of the file.
     fn nak(&self, current: &ControlBlock, change: &FileChange) -> Result<Pdu, AllocError>
-        requires { IsSmall current.now }
+        requires { IsReady self.now.file current.now change.now }
         ensures { IfOk result
             (λ pdu. pdu ≡ pdu_to_sender (reception_of self.now) (nak_of (now_state self.now current.now change.now))) }
     {
@@ -106,7 +105,7 @@ impl ReceiverCore {
         current: &ControlBlock,
         change: &FileChange,
     ) -> Result<(), AllocError>
-        requires { IsSmall current.now }
+        requires { IsReady self.now.file current.now change.now }
         ensures { OnOk result (pdus.new ≡ pdus.old ++ map (pdu_to_sender (reception_of self.now))
             (if_so response.now.nak (nak_of (now_state self.now current.now change.now)))) }
     {
@@ -152,7 +151,7 @@ impl ReceiverCore {
         change: &FileChange,
         ended: bool,
     ) -> Result<Pdus, AllocError>
-        requires { IsSmall current.now }
+        requires { IsReady self.now.file current.now change.now }
         ensures { IfOk result (λ pdus. pdus ≡ map (pdu_to_sender (reception_of self.now))
             (bodies_of (now_state self.now current.now change.now) ended (response_value response.now))) }
     {

@@ -8,7 +8,7 @@ use pdu_values::{Body, FileData, Metadata};
 use receiver_parts::control::ControlBlock;
 use receiver_parts::file_change::FileChange;
 use receiver_parts::response::Response;
-use receiver_parts::steps::{changes, next, with_event};
+use receiver_parts::steps::{changes, settle, with_event};
 use std::alloc::{AllocError, Global};
 use txn_events::{Answer, Refusal, TimerChanges, TimerContext, TimerOps, What, operations};
 
@@ -24,8 +24,7 @@ impl ReceiverCore {
     ghost use Rattle.receiver_table.specs.Refusals.{is_too_large, is_body_too_large, refusal_at};
     ghost use Rattle.receiver_table.specs.Answers.{answer_at};
     ghost use Rattle.receiver_core.specs.PlanParts.{HoldsResponse, deposit_of};
-    ghost use Rattle.receiver_parts.specs.FileChange.{FitsFile, HasRoom};
-    ghost use Rattle.receiver_parts.specs.ControlBlock.{IsSmall};
+    ghost use Rattle.receiver_parts.specs.FileChange.{FitsFile, HasRoom, IsReady};
     ghost use Rattle.receiver_core.specs.Core.{shown, reception_of, plan_answer, StandsAfter, IsChange, IsSame, IsPlanOf, IsWhy};
 
     // The change that Metadata brings: none unless it is the first.
@@ -97,36 +96,36 @@ impl ReceiverCore {
         }
     }
 
-    // The plan of an event with its response and its change; `current` is the control block with the event. What changes
-    // goes into the spare memory, if there is some.
+    // The plan of an event with its response. The step has the event's change and the control block with the event, and
+    // becomes the step of the plan.
     fn plan_response(
         &self,
         event: &What,
-        current: ControlBlock,
         response: Response,
-        change: FileChange,
-        spare: Option<Box<Step>>,
+        mut step: Box<Step>,
     ) -> Result<Plan, AllocError>
-        requires { IsSmall current }
-        ensures { IfOk result (λ plan. HoldsResponse self.now event.now current response change plan) }
+        requires { IsReady self.now.file step.value.next step.value.change }
+        ensures { IfOk result
+            (λ plan. HoldsResponse self.now event.now step.value.next response step.value.change plan) }
     {
         let deposit = self.deposit_of(&response);
-        let next = next(
+        let ended = response.inds.has_end();
+        let pdus = self.pdus_of(&response, &step.next, &step.change, ended)?;
+        let more = step.change.adds();
+        settle(
+            &mut step.next,
             &self.control,
-            current,
             event,
             &response,
             deposit,
-            change.adds(),
+            more,
         );
-        let changes = changes(&next, event, &response);
-        let pdus = self.pdus_of(&response, &current, &change, response.inds.has_end())?;
+        let changes = changes(&step.next, event, &response);
         let context = TimerContext::new(self.key, &self.params, self.control.entries);
         let timers = operations(self.alloc, &context, changes, &self.control.armed)?;
-        let armed = self.control.armed.after(changes, self.control.entries);
-        let next = ControlBlock { armed, ..next };
+        step.next.armed = self.control.armed.after(changes, self.control.entries);
         Ok(Plan {
-            step: boxed(self.alloc, spare, Step { next, change })?,
+            step,
             answer: Answer {
                 inds: response.inds,
                 pdus,
@@ -136,7 +135,8 @@ impl ReceiverCore {
         })
     }
 
-    // The plan of an accepted event and its change, for which there is room already.
+    // The plan of an accepted event and its change, for which there is room already. What changes goes into the spare
+    // memory, if there is some.
     fn plan_change(
         &self,
         event: &What,
@@ -149,8 +149,9 @@ impl ReceiverCore {
         ensures { IfOk result (λ plan. IsPlanOf self.now plan event.now) }
     {
         let current = with_event(&self.control, event, change.adds());
-        let response = self.response_to(event, &current, &change)?;
-        self.plan_response(event, current, response, change, spare)
+        let step = boxed(self.alloc, spare, current, change)?;
+        let response = self.response_to(event, &step.next, &step.change)?;
+        self.plan_response(event, response, step)
     }
 
     // Plans an event in the present state.
@@ -186,13 +187,19 @@ impl ReceiverCore {
 }
 
 // A step in the spare memory, or in new memory.
-fn boxed(alloc: Global, spare: Option<Box<Step>>, step: Step) -> Result<Box<Step>, AllocError>
-    ensures { IfOk result (λ boxed. boxed.value ≡ step) }
+fn boxed(
+    alloc: Global,
+    spare: Option<Box<Step>>,
+    next: ControlBlock,
+    change: FileChange,
+) -> Result<Box<Step>, AllocError>
+    ensures { IfOk result (λ boxed. boxed.value ≡ record { next = next; change = change }) }
 {
     match spare {
-        None => Ok(Box::new(alloc, step)?),
+        None => Ok(Box::new(alloc, Step { next, change })?),
         Some(mut boxed) => {
-            *boxed = step;
+            boxed.next = next;
+            boxed.change = change;
             Ok(boxed)
         }
     }

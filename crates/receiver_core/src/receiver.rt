@@ -55,24 +55,12 @@ impl ReceiverCore {
             → StandsAfter self.new (record { event = event; answer = plan_answer plan } ∷ log) }
     {
         let Plan { step, answer } = plan;
-        let (step, spare) = taken(step);
-        let Step { next, change } = step;
+        let mut spare = step;
+        let held = &mut *spare;
+        let change = mem::replace(&mut held.change, FileChange::Nothing);
+        self.control = held.next;
         change.apply(&mut self.file, &mut self.metadata);
-        self.control = next;
         self.spare = Some(spare);
         answer
     }
-}
-
-// A step, and the memory in which it was.
-fn taken(step: Box<Step>) -> (Step, Box<Step>)
-    ensures { result.0 ≡ step.value }
-{
-    let mut spare = step;
-    let empty = Step {
-        next: ControlBlock::first(),
-        change: FileChange::Nothing,
-    };
-    let step = mem::replace(&mut *spare, empty);
-    (step, spare)
 }

@@ -1,5 +1,5 @@
 -- What came, and its checksum, with a segment.
-use Rattle.std.proofs.Common.{◌≡◌, ℕ, ◌+◌, ◌-◌, ◌<◌, ◌≤◌, Bool, true, false, not, ◌&&◌, ◌||◌, if◌then◌else◌, List, [], ◌∷◌, ◌++◌, length, get_or, take, drop, map, Option, Some, None, refl, sym, ap, ◌∙◌, arith, inl, inr, length-drop, length-take-le}
+use Rattle.std.proofs.Common.{◌≡◌, ℕ, ◌+◌, ◌-◌, ◌<◌, ◌≤◌, Bool, true, false, not, ◌&&◌, ◌||◌, if◌then◌else◌, List, [], ◌∷◌, length, get_or, take, drop, map, Option, Some, None, refl, sym, ap, ◌∙◌, arith, inl, inr, length-drop, length-take-le}
 use Rattle.std.proofs.lemmas.Bool.{cases_Bool, cases_lt, le-leb, lt-leb, lt-ltb, le-ltb, leb-true, ltb-true, and_parts}
 use Rattle.std.proofs.lemmas.List.{get_or-take, get_or-drop}
 use Rattle.std.specs.Prelude.{slice_get, is_some}
@@ -16,7 +16,7 @@ use Rattle.receiver_parts.specs.Offsets.{octet_in, piece_of, part_of}
 use Rattle.receiver_parts.specs.declared.pieces.Piece as kept
 use Rattle.receiver_parts.specs.ReceivedFile.{with_segment}
 use Rattle.receiver_parts.proofs.ReceivedFileLemmas.{same_get}
-use Rattle.receiver_parts.proofs.LayLemmas.{new_has, octet_within, octet_in-append}
+use Rattle.receiver_parts.proofs.LayLemmas.{new_has, octet_within}
 
 -- the octets of a segment, the first of which stands at an offset, at those offsets that a run has, and others elsewhere
 pub With : ℕ → List ℕ → (ℕ → Bool) → (ℕ → Option ℕ) → ℕ → Option ℕ
@@ -202,12 +202,12 @@ merged (Some octet) within false x other is same = absurd cc
 
 -- the pieces, with the parts of a segment that are new
 pub with_parts : (pieces : List kept.Piece) (set : ℕ → Bool) (d : FileData) (i : ℕ) → is_some (octet_in pieces i) ≡ set i
-    → octet_in (pieces ++ map (part_of d.offset d.octets) (new_runs set d.offset (d.offset + length d.octets))) i ≡ with_segment (octet_in pieces) (Some d) i
+    → newer_or (octet_in (map (part_of d.offset d.octets) (new_runs set d.offset (d.offset + length d.octets))) i) (octet_in pieces i)
+    ≡ with_segment (octet_in pieces) (Some d) i
 with_parts pieces set d i came =
     let end : ℕ = d.offset + length d.octets in
     let runs : List Run = new_runs set d.offset end in
-    octet_in-append pieces (map (part_of d.offset d.octets) runs) i
-    ∙ ap (λ o. newer_or o (octet_in pieces i)) (parts_are d.offset d.octets 0 runs i
+    ap (λ o. newer_or o (octet_in pieces i)) (parts_are d.offset d.octets 0 runs i
     (IsRisingFrom-runs_of (λ j. is_within d.offset end j && not (set j)) end)
     (λ j has. (and_parts (is_within d.offset end j) (not (set j)) (sym (new_has set d.offset end j) ∙ has)).0))
     ∙ rw (new_has set d.offset end i)

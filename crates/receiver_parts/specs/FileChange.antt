@@ -1,14 +1,13 @@
 -- Of the code. What an event changes in the received file, and the file after it.
-use Rattle.std.specs.Prelude.{◌≡◌, ℕ, ◌<◌, ◌≤◌, Bool, true, false, not, ◌==◌, List, [], length, Option, Some, None}
+use Rattle.std.specs.Prelude.{◌≡◌, ℕ, ◌<◌, ◌≤◌, Bool, true, false, not, ◌==◌, List, [], length, is_some, Option, Some, None}
 use Rattle.smallvec.specs.SmallVec.{small_vec_len}
 use Rattle.gap_list.specs.Covered.{covered}
 use Rattle.gap_list.specs.Runs.{with_range}
 use Rattle.gap_list.specs.declared.run.Run.{Run}
 use Rattle.modular_sum.specs.Pieces.{IsSumOf}
 use Rattle.pdu_values.specs.declared.bodies.Metadata.{Metadata}
-use Rattle.pdu_values.specs.declared.bodies.FileData.{FileData}
 use Rattle.receiver_parts.specs.ControlBlock.{IsSmall}
-use Rattle.receiver_parts.specs.ReceivedFile.{received_of, room_of, with_segment, end_of, IsSegmentOf}
+use Rattle.receiver_parts.specs.ReceivedFile.{received_of, received_with, room_of, IsSegmentOf}
 use Rattle.receiver_parts.specs.declared.received_file.ReceivedFile.{ReceivedFile}
 use Rattle.receiver_parts.specs.declared.control.ControlBlock.{ControlBlock}
 use Rattle.receiver_parts.specs.declared.file_change.FileChange as change_type
@@ -19,18 +18,14 @@ abbrev pub metadata_after : Option Metadata → change_type.FileChange → Optio
 metadata_after metadata (change.Metadata m) = Some m
 metadata_after metadata _ = metadata
 
--- the segment that a change adds
-abbrev pub segment_of : change_type.FileChange → Option FileData
-segment_of (change.NewSegment segment) = Some segment.file_data
-segment_of _ = None
-
 -- the received octets, after a change
 abbrev pub received_after : ReceivedFile → change_type.FileChange → ℕ → Option ℕ
-received_after file c = with_segment (received_of file) (segment_of c)
+received_after file (change.NewSegment segment) = received_with file segment
+received_after file _ = received_of file
 
 -- the received offsets, after a change
 abbrev pub covered_after : ReceivedFile → change_type.FileChange → ℕ → Bool
-covered_after file (change.NewSegment segment) = with_range (covered file.gaps) segment.file_data.offset (end_of segment)
+covered_after file (change.NewSegment segment) = with_range (covered file.gaps) segment.start segment.end
 covered_after file _ = covered file.gaps
 
 -- the checksum of the received octets, after a change
@@ -59,8 +54,10 @@ adds (change.Metadata m) = true
 adds (change.NewSegment segment) = not (length segment.runs.items == 0)
 adds change.Nothing = false
 
--- the checksum after a change is that of the received octets, which all lie below the progress
+-- after a change the received offsets are those of the octets, which all lie below the progress, and the checksum is
+-- theirs
 pub record IsReady (file : ReceivedFile) (now : ControlBlock) (c : change_type.FileChange) : Type 0 where
+  pub came : (i : ℕ) → is_some (received_after file c i) ≡ covered_after file c i
   pub summed : IsSumOf (received_after file c) (word_after file c)
   pub reached : (i : ℕ) → now.progress ≤ i → received_after file c i ≡ None
   pub small : IsSmall now

@@ -1,8 +1,8 @@
 -- Of the code. How the code keeps the octets of a file.
-use Rattle.std.specs.Prelude.{◌≡◌, ℕ, ◌+◌, ◌-◌, length, Option, Some, vec_len, vec_capacity}
-use Rattle.cfdp_types.specs.Steps.{older_or}
+use Rattle.std.specs.Prelude.{◌≡◌, ℕ, ◌-◌, is_some, Option, vec_len, vec_capacity}
+use Rattle.cfdp_types.specs.Steps.{newer_or, older_or}
 use Rattle.gap_list.specs.Covered.{covered}
-use Rattle.gap_list.specs.Runs.{new_runs}
+use Rattle.gap_list.specs.Runs.{with_range}
 use Rattle.modular_sum.specs.Pieces.{IsSumOf}
 use Rattle.pdu_values.specs.declared.bodies.FileData.{FileData}
 use Rattle.receiver_table.specs.Reception.{octet_at}
@@ -22,11 +22,11 @@ room_of file = vec_capacity file.pieces - vec_len file.pieces
 abbrev pub with_segment : (ℕ → Option ℕ) → Option FileData → ℕ → Option ℕ
 with_segment received segment i = older_or (received i) (octet_at segment i)
 
--- the end of a segment
-abbrev pub end_of : NewSegment → ℕ
-end_of segment = segment.file_data.offset + length segment.file_data.octets
+-- the received octets, with the pieces of a segment
+abbrev pub received_with : ReceivedFile → NewSegment → ℕ → Option ℕ
+received_with file segment i = newer_or (octet_in segment.pieces.items i) (received_of file i)
 
--- the runs of a segment that are new to a file, and the checksum once they are added
+-- with its pieces a file has the segment's offsets too, and the checksum is that of all octets
 pub record IsSegmentOf (file : ReceivedFile) (segment : NewSegment) : Type 0 where
-  pub runs : segment.runs.items ≡ new_runs (covered file.gaps) segment.file_data.offset (end_of segment)
-  pub sum : IsSumOf (with_segment (received_of file) (Some segment.file_data)) segment.sum
+  pub came : (i : ℕ) → is_some (received_with file segment i) ≡ with_range (covered file.gaps) segment.start segment.end i
+  pub sum : IsSumOf (received_with file segment) segment.sum

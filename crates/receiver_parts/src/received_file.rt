@@ -1,8 +1,8 @@
 //! The received octets of a file.
-ghost use Rattle.std.specs.Prelude.{◌≡◌, ℕ, ◌+◌, IfOk, is_some, length, map};
+ghost use Rattle.std.specs.Prelude.{◌≡◌, ℕ, ◌≤◌, is_some};
 ghost use Rattle.gap_list.specs.Covered.{covered};
 ghost use Rattle.modular_sum.specs.Pieces.{IsSumOf};
-ghost use Rattle.receiver_parts.specs.Offsets.{octet_in, part_of};
+ghost use Rattle.receiver_parts.specs.Offsets.{octet_in};
 
 use crate::pieces::{Piece, Pieces, append, parts_of, put_pieces, resize, sum_with_runs};
 use gap_list::{Gaps, Run, Runs};
@@ -23,10 +23,9 @@ pub struct ReceivedFile {
     ghost summed: { IsSumOf (octet_in pieces.items) sum },
 }
 
-/// A segment of a file, and what it adds to the octets received before.
+/// What a segment of a file adds to the octets received before.
 #[derive(Drop)]
 pub struct NewSegment {
-    pub file_data: FileData,
     /// The segment's first offset.
     pub start: u32,
     /// One more than the segment's last offset.
@@ -37,9 +36,7 @@ pub struct NewSegment {
     pub pieces: Pieces,
     /// The checksum once the octets at these offsets are added.
     pub sum: Running,
-    ghost starts: { start ≡ file_data.offset },
-    ghost ends: { end ≡ file_data.offset + length file_data.octets },
-    ghost parts: { pieces.items ≡ map (part_of file_data.offset file_data.octets) runs.items },
+    ghost ordered: { start ≤ end },
 }
 
 impl ReceivedFile {
@@ -50,7 +47,7 @@ impl ReceivedFile {
     ghost use Rattle.gap_list.specs.Covered.{covered};
     ghost use Rattle.modular_sum.specs.Pieces.{IsSumOf};
     ghost use Rattle.receiver_parts.specs.Offsets.{part_of};
-    ghost use Rattle.receiver_parts.specs.ReceivedFile.{received_of, with_segment, room_of, IsSegmentOf};
+    ghost use Rattle.receiver_parts.specs.ReceivedFile.{received_of, received_with, with_segment, room_of, IsSegmentOf};
 
     /// A file of which nothing was received.
     pub fn new(alloc: Global) -> ReceivedFile
@@ -88,16 +85,20 @@ impl ReceivedFile {
     /// What a segment adds to the file. `end` is one more than its last offset.
     pub fn segment(&self, file_data: &FileData, end: u32) -> Result<NewSegment, AllocError>
         requires { end ≡ file_data.now.offset + length file_data.now.octets }
-        ensures whole { IfOk result (λ segment. segment.file_data ≡ file_data.now) }
+        ensures runs { IfOk result
+            (λ segment. segment.runs.items ≡ new_runs (covered self.now.gaps) file_data.now.offset
+            (file_data.now.offset + length file_data.now.octets)) }
+        ensures pieces { IfOk result
+            (λ segment. segment.pieces.items ≡ map (part_of file_data.now.offset file_data.now.octets) segment.runs.items) }
+        ensures received { IfOk result (λ segment. (i : ℕ)
+            → received_with self.now segment i ≡ with_segment (received_of self.now) (Some file_data.now) i) }
         ensures segment { IfOk result (λ segment. IsSegmentOf self.now segment) }
     {
         let start = file_data.offset as u32;
         let runs = self.gaps.new_within(start, end)?;
         let pieces = self.parts_at(file_data, start, runs.as_slice())?;
         let sum = self.sum_with(file_data, start, runs.as_slice());
-        let file_data = copy_of(file_data)?;
         Ok(NewSegment {
-            file_data,
             start,
             end,
             runs,
@@ -155,21 +156,10 @@ impl ReceivedFile {
         requires segment { IsSegmentOf self.old segment }
         requires pieces { small_vec_len segment.pieces ≤ room_of self.old }
         requires run { 0 < self.old.gaps.room }
-        ensures received { (i : ℕ) → received_of self.new i
-            ≡ with_segment (received_of self.old) (Some segment.file_data) i }
+        ensures received { (i : ℕ) → received_of self.new i ≡ received_with self.old segment i }
     {
         append(&mut self.pieces, segment.pieces);
         self.gaps.add(segment.start, segment.end);
         self.sum = segment.sum;
     }
-}
-
-// A copy of a segment, which shares its octets.
-fn copy_of(file_data: &FileData) -> Result<FileData, AllocError>
-    ensures { IfOk result (λ copy. copy ≡ file_data.now) }
-{
-    Ok(FileData {
-        offset: file_data.offset,
-        octets: file_data.octets.copy()?,
-    })
 }

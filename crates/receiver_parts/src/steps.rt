@@ -1,9 +1,12 @@
 //! The state after an event.
-ghost use Rattle.std.specs.Prelude.{◌≡◌, false};
+ghost use Rattle.std.specs.Prelude.{◌≡◌, ◌||◌, ◌&&◌, not, false, if◌then◌else◌};
 ghost use Rattle.cfdp_types.specs.declared.names.TimerKind.{TimerKind};
-ghost use Rattle.cfdp_types.specs.Steps.{has_kind};
+ghost use Rattle.cfdp_types.specs.declared.limits.TheConstants.{JOURNAL_ENTRIES};
+ghost use Rattle.cfdp_types.specs.Steps.{has_kind, is_kind};
+ghost use Rattle.cfdp_types.specs.Steps as steps;
+ghost use Rattle.cfdp_types.specs.declared.names.TimerKind.TheVariants as kinds;
 ghost use Rattle.txn_events.specs.Events.{body_of_event};
-ghost use Rattle.txn_events.specs.Timers.{AreFew, effects, effect_of_change};
+ghost use Rattle.txn_events.specs.Timers.{AreFew, AreUpTo, effects, effect_of_change, is_reset, tries_by, tries_of};
 ghost use Rattle.receiver_table.specs.Reception.{closure_of, eof_of, extent_of, file_data_of, waiting_after};
 ghost use Rattle.receiver_table.specs.Refusals.{is_too_large};
 ghost use Rattle.receiver_table.specs.Answers.{effect_of, is_sign_of_life};
@@ -14,8 +17,9 @@ ghost use Rattle.receiver_parts.specs.Steps.{IsWithEvent, IsNext, is_quiet};
 use crate::control::ControlBlock;
 use crate::response::Response;
 use cfdp_types::{Condition, Deposit, TimerKind};
+use indications::Indication;
 use pdu_values::{Body, Eof, Prompt};
-use txn_events::{CountResets, TimerChange, TimerChanges, What, paused_after};
+use txn_events::{CountResets, TimerChange, TimerChanges, Tries, What, has_resumed, paused_after};
 
 // The closure bit of the Metadata that an event carries.
 fn closure_in(event: &What) -> Option<bool>
@@ -83,6 +87,32 @@ fn waiting_after(waiting: Option<u32>, event: &What, deposit: Option<Deposit>) -
     }
 }
 
+// The counts after an event that is no expiration.
+fn unexpired(tries: Tries, resumed: bool, more: bool) -> Tries
+    ensures { (kind : TimerKind) → tries_of result kind
+        ≡ (if resumed || is_reset (record { ack = false; nak = more }) kind then 0 else tries_of tries kind) }
+{
+    if resumed {
+        Tries::NONE
+    } else if more {
+        Tries { nak: 0, ..tries }
+    } else {
+        tries
+    }
+}
+
+// The counts after an event with these indications; `more` says whether the event brings more of the file.
+fn tries_after(tries: Tries, event: &What, inds: &[Indication], more: bool) -> Tries
+    requires { AreUpTo JOURNAL_ENTRIES tries }
+    ensures { (kind : TimerKind) → tries_of result kind
+        ≡ tries_by event.now inds.now (record { ack = false; nak = more }) kind (tries_of tries kind) }
+{
+    match event {
+        What::Timer(_, _) => tries.after(event, inds, resets(more)),
+        _ => unexpired(tries, has_resumed(inds), more),
+    }
+}
+
 // Which counts begin again, where more of the file was received or not.
 fn resets(more: bool) -> CountResets
     ensures { result ≡ record { ack = false; nak = more } }
@@ -112,36 +142,33 @@ pub fn with_event(control: &ControlBlock, event: &What, more: bool) -> ControlBl
             Some(eof) => Some(eof),
         },
         waiting: waiting_after(control.waiting, event, None),
-        tries: control.tries.after(event, &[], resets(more)),
+        tries: tries_after(control.tries, event, &[], more),
         ..*control
     }
 }
 
-/// The control block after an event is answered with a response and a deposit; the timers stay as they were.
-/// `current` is the control block with the event, before it is answered.
-pub fn next(
+/// Makes `current`, the control block with an event, the one after the event is answered with a response and a deposit.
+/// The timers are left to the caller. `control` is the control block before the event.
+pub fn settle(
+    current: &mut ControlBlock,
     control: &ControlBlock,
-    current: ControlBlock,
     event: &What,
     response: &Response,
     deposit: Option<Deposit>,
     more: bool,
-) -> ControlBlock
+)
     requires few { AreFew control.now.entries control.now.tries }
-    ensures { IsNext control.now current event.now response.now deposit more result }
+    ensures { IsNext control.now current.old event.now response.now deposit more current.new }
 {
     let inds = response.inds.as_slice();
-    ControlBlock {
-        waiting: waiting_after(control.waiting, event, deposit),
-        finished: match response.finished {
-            None => control.finished,
-            Some(finished) => Some(finished),
-        },
-        paused: paused_after(control.paused, inds),
-        ended: control.ended || response.inds.has_end(),
-        tries: control.tries.after(event, inds, resets(more)),
-        ..current
-    }
+    current.waiting = waiting_after(control.waiting, event, deposit);
+    current.finished = match response.finished {
+        None => control.finished,
+        Some(finished) => Some(finished),
+    };
+    current.paused = paused_after(control.paused, inds);
+    current.ended = control.ended || response.inds.has_end();
+    current.tries = tries_after(control.tries, event, inds, more);
 }
 
 // Whether all timers are stopped: the transaction has ended, waits for the file store, or is suspended.
@@ -172,13 +199,17 @@ fn is_sign_of_life(event: &What) -> bool
     }
 }
 
-// What a step does to the timer of a kind, where `next` is the control block after it.
-fn change_of(next: &ControlBlock, event: &What, response: &Response, kind: TimerKind) -> TimerChange
-    ensures { effect_of_change result ≡ effect_of (response_value response.now) (bare next.now) event.now kind }
+// What a step does to the timer of a kind.
+fn change_of(quiet: bool, closing: bool, armed: bool, lives: bool, kind: TimerKind) -> TimerChange
+    ensures { effect_of_change result ≡ (if quiet then steps.stops
+        else if closing && not (is_kind kinds.Ack kind) then steps.stops
+        else if armed then steps.arms
+        else if is_kind kinds.Inactivity kind && lives then steps.arms
+        else steps.keeps) }
 {
-    if is_quiet(next) || (next.is_closing() && kind != TimerKind::Ack) {
+    if quiet || (closing && kind != TimerKind::Ack) {
         TimerChange::Stops
-    } else if arms(response, kind) || (kind == TimerKind::Inactivity && is_sign_of_life(event)) {
+    } else if armed || (kind == TimerKind::Inactivity && lives) {
         TimerChange::Arms
     } else {
         TimerChange::Keeps
@@ -190,10 +221,21 @@ pub fn changes(next: &ControlBlock, event: &What, response: &Response) -> TimerC
     ensures { (kind : TimerKind) → effects result kind ≡ effect_of (response_value response.now) (bare next.now)
         event.now kind }
 {
+    let quiet = is_quiet(next);
+    let closing = next.is_closing();
+    let lives = is_sign_of_life(event);
+    let (ack, nak) = (TimerKind::Ack, TimerKind::Nak);
+    let (check, inactivity) = (TimerKind::Check, TimerKind::Inactivity);
     TimerChanges {
-        ack: change_of(next, event, response, TimerKind::Ack),
-        nak: change_of(next, event, response, TimerKind::Nak),
-        check: change_of(next, event, response, TimerKind::Check),
-        inactivity: change_of(next, event, response, TimerKind::Inactivity),
+        ack: change_of(quiet, closing, arms(response, ack), lives, ack),
+        nak: change_of(quiet, closing, arms(response, nak), lives, nak),
+        check: change_of(quiet, closing, arms(response, check), lives, check),
+        inactivity: change_of(
+            quiet,
+            closing,
+            arms(response, inactivity),
+            lives,
+            inactivity,
+        ),
     }
 }

@@ -4,7 +4,6 @@ use Rattle.receiver_parts.specs.FileChange.{metadata_after, received_after, cove
 use Rattle.receiver_core.specs.Core.{reception_of, now_state}
 use Rattle.receiver_parts.specs.Finding.{found_response}
 use Rattle.receiver_parts.specs.declared.examine.Finding.{Finding}
-use Rattle.receiver_core.proofs.ChangeLemmas.{came_after}
 use Rattle.receiver_parts.proofs.FindingLemmas.{examined}
 use Rattle.receiver_core.proofs.receiver.ReceiverCore.examine.Goals as goal
 
@@ -15,7 +14,7 @@ returns-clause-response c =
     let same : examines (reception_of core) state ≡ found_response (reception_of core) state c.look-finding.result =
     examined (reception_of core) c.args.current.now (metadata_after core.metadata c.args.change.now) (received_after core.file c.args.change.now)
     (covered_after core.file c.args.change.now) (word_after core.file c.args.change.now)
-    (λ i. came_after core.file c.args.change.now i) c.requires.reached c.requires.summed
+    c.requires.came c.requires.reached c.requires.summed
     (sym c.is_suspended.ensures ∙ c.if-is_suspended.false)
     ∙ ap (λ (f : Finding). found_response (reception_of core) state f)
     (sym (rw c.checksum_type_after.ensures at c.look-finding.ensures)) in

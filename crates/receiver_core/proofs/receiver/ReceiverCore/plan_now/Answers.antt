@@ -33,7 +33,7 @@ plan_change-requires-clause-change c =
     let is = change_still c.args.self.now c.prepare.new.self (body_of_event c.args.event.now) c.in_ok-change.change c.prepare.ensures.same c.in_ok-change.ensures in
     record {
       metadata = is.metadata;
-      file_data = is.file_data;
+      received = is.received;
       fits = is.fits;
       runs = is.runs;
       more = is.more;
