@@ -95,7 +95,7 @@ impl<D: Disk + Drop> Model for StoredOutbox<D> {
 
 impl<D: Disk + Drop> StoredOutbox<D> {
     /// Opens the file of this name in the disk's own folder: reads it, and writes what it says again as a whole, so that
-    /// an error shows before anything is queued. Where there is no file, nothing was queued yet. What follows the
+    /// an error shows before anything is queued. If there is no file, nothing was queued yet. What follows the
     /// last line feed is passed over: a cut of power tore that line. A file with a line that says nothing is left as it
     /// is. A name with a slash can't be written.
     pub fn open(disk: D, alloc: Global, path: String) -> Result<StoredOutbox<D>, StoredOutboxFault>
@@ -200,16 +200,13 @@ impl<D: Disk + Drop> StoredOutbox<D> {
         let grown = self.size.with(text.len());
         let appends = self.is_sound && grown.is_small();
         self.is_sound = false;
-        self.size = put_line(
-            &mut self.disk,
-            self.alloc,
-            self.path.as_str(),
-            &self.book,
-            &line,
-            text.as_slice(),
-            appends,
-            grown,
-        )?;
+        let added = AddedLine {
+            path: self.path.as_str(),
+            book: &self.book,
+            line: &line,
+            text: text.as_slice(),
+        };
+        self.size = put_line(&mut self.disk, self.alloc, &added, appends, grown)?;
         self.book.note(line);
         self.is_sound = true;
         Ok(())
@@ -238,74 +235,71 @@ fn read_book<D: Disk>(disk: &mut D, alloc: Global, path: &str) -> Result<Book, S
     }
 }
 
-// Writes a line with this text, after the others, or with all of them anew. Returns the size of the file.
+// A line that is added to a file: the file's path and what it says before, and the line with its text.
+#[derive(Clone, Copy)]
+struct AddedLine<'a> {
+    path: &'a str,
+    book: &'a Book,
+    line: &'a Line,
+    text: &'a [u8],
+}
+
+// Writes a line after the others, or with all of them anew. Returns the size of the file.
 fn put_line<D: Disk>(
     disk: &mut D,
     alloc: Global,
-    path: &str,
-    book: &Book,
-    line: &Line,
-    text: &[u8],
+    added: &AddedLine<'_>,
     appends: bool,
     grown: Size,
 ) -> Result<Size, StoredOutboxFault>
-    requires all_plain { IsPlainBook (value book.now) }
-    requires plain { IsPlain line.now }
-    requires is_text { text.now ≡ line_text line.now }
-    requires stored { appends ≡ true → IsStored path.now (value book.now) (D.done disk.old) }
-    ensures stored { OnOk result (IsStored path.now (after line.now (value book.now)) (D.done disk.new)) }
-    ensures notes { Notes path.now (value book.now) (after line.now (value book.now)) (D.done disk.old) (D.done disk.new) }
+    requires all_plain { IsPlainBook (value added.now.book.now) }
+    requires plain { IsPlain added.now.line.now }
+    requires is_text { added.now.text.now ≡ line_text added.now.line.now }
+    requires stored { appends ≡ true → IsStored added.now.path.now (value added.now.book.now) (D.done disk.old) }
+    ensures stored { OnOk result (IsStored added.now.path.now (after added.now.line.now (value added.now.book.now)) (D.done disk.new)) }
+    ensures notes { Notes added.now.path.now (value added.now.book.now) (after added.now.line.now (value added.now.book.now)) (D.done disk.old) (D.done disk.new) }
 {
     if appends {
-        return match append_line(disk, path, book, line, text) {
+        return match append_line(disk, added) {
             Ok(()) => Ok(grown),
             Err(_) => Err(StoredOutboxFault::Unwritable),
         };
     }
-    let octets = rewrite(disk, alloc, path, book, line, text)?;
+    let octets = rewrite(disk, alloc, added)?;
     Ok(Size::of_whole(octets))
 }
 
 // Writes a line after the others.
-fn append_line<D: Disk>(
-    disk: &mut D,
-    _path: &str,
-    _book: &Book,
-    _line: &Line,
-    text: &[u8],
-) -> Result<(), Fault>
-    requires stored { IsStored _path.now (value _book.now) (D.done disk.old) }
-    requires plain { IsPlain _line.now }
-    requires is_text { text.now ≡ line_text _line.now }
-    ensures stored { OnOk result (IsStored _path.now (after _line.now (value _book.now)) (D.done disk.new)) }
-    ensures notes { Notes _path.now (value _book.now) (after _line.now (value _book.now)) (D.done disk.old) (D.done disk.new) }
+fn append_line<D: Disk>(disk: &mut D, added: &AddedLine<'_>) -> Result<(), Fault>
+    requires stored { IsStored added.now.path.now (value added.now.book.now) (D.done disk.old) }
+    requires plain { IsPlain added.now.line.now }
+    requires is_text { added.now.text.now ≡ line_text added.now.line.now }
+    ensures stored { OnOk result (IsStored added.now.path.now (after added.now.line.now (value added.now.book.now)) (D.done disk.new)) }
+    ensures notes { Notes added.now.path.now (value added.now.book.now) (after added.now.line.now (value added.now.book.now)) (D.done disk.old) (D.done disk.new) }
 {
-    disk.append(text)?;
+    disk.append(added.text)?;
     disk.flush()
 }
 
-// Writes the whole file anew: what a book says, and one line more, which has this text. Returns its octets.
+// Writes the whole file anew: what it said before, and the line that is added. Returns its octets.
 fn rewrite<D: Disk>(
     disk: &mut D,
     alloc: Global,
-    path: &str,
-    book: &Book,
-    _line: &Line,
-    text: &[u8],
+    added: &AddedLine<'_>,
 ) -> Result<usize, StoredOutboxFault>
-    requires all_plain { IsPlainBook (value book.now) }
-    requires plain { IsPlain _line.now }
-    requires is_text { text.now ≡ line_text _line.now }
-    ensures stored { OnOk result (IsStored path.now (after _line.now (value book.now)) (D.done disk.new)) }
-    ensures notes { Notes path.now (value book.now) (after _line.now (value book.now)) (D.done disk.old) (D.done disk.new) }
+    requires all_plain { IsPlainBook (value added.now.book.now) }
+    requires plain { IsPlain added.now.line.now }
+    requires is_text { added.now.text.now ≡ line_text added.now.line.now }
+    ensures stored { OnOk result (IsStored added.now.path.now (after added.now.line.now (value added.now.book.now)) (D.done disk.new)) }
+    ensures notes { Notes added.now.path.now (value added.now.book.now) (after added.now.line.now (value added.now.book.now)) (D.done disk.old) (D.done disk.new) }
 {
-    let Ok(mut whole) = book_text(alloc, book) else {
+    let Ok(mut whole) = book_text(alloc, added.book) else {
         return Err(StoredOutboxFault::NoMemory);
     };
-    if whole.extend_from_slice(text).is_err() {
+    if whole.extend_from_slice(added.text).is_err() {
         return Err(StoredOutboxFault::NoMemory);
     }
-    write_whole(disk, alloc, path, whole.as_slice())?;
+    write_whole(disk, alloc, added.path, whole.as_slice())?;
     Ok(whole.len())
 }
 

@@ -24,7 +24,7 @@ pub enum Line {
     Dropped(u64),
 }
 
-/// Adds a line and its line feed to a text. Where memory runs out, a part may stand there.
+/// Adds a line and its line feed to a text. If memory runs out, a part may be there.
 pub(crate) fn push_line(alloc: Global, text: &mut Vec<u8>, line: &Line) -> Result<(), AllocError>
     ensures { OnOk result (text.new.items ≡ text.old.items ++ line_text line.now) }
 {

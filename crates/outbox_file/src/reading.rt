@@ -8,7 +8,7 @@ use crate::book::Book;
 use crate::lines::{Line, line_in, push_line, push_queued};
 use std::alloc::{AllocError, Global};
 
-/// What a text says; `None` where one of its lines says nothing. What follows the last line feed is passed over.
+/// What a text says; `None` if one of its lines says nothing. What follows the last line feed is passed over.
 pub(crate) fn book_in(alloc: Global, text: &[u8]) -> Result<Option<Book>, AllocError>
     ensures { IfOk result (λ book. option_map value book ≡ book_in text.now) }
 {

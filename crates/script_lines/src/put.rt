@@ -84,45 +84,51 @@ fn put_words(
     let Some(closure) = closure_of(operands) else {
         return Ok(None);
     };
-    match put_from(
-        alloc,
-        gathered,
+    let words = PutWords {
         class,
         destination,
         source_name,
         destination_name,
         file,
-    )? {
+    };
+    match put_from(alloc, gathered, &words)? {
         Some(put) => Ok(Some(put.with_closure(closure))),
         None => Ok(None),
     }
 }
 
+// The words that say what is put, one for each parameter of the Put.
+#[derive(Clone, Copy)]
+struct PutWords<'a> {
+    class: &'a [u8],
+    destination: &'a [u8],
+    source_name: &'a [u8],
+    destination_name: &'a [u8],
+    file: &'a [u8],
+}
+
 fn put_from(
     alloc: Global,
     gathered: &Gathered,
-    class: &[u8],
-    destination: &[u8],
-    source_name: &[u8],
-    destination_name: &[u8],
-    file: &[u8],
+    words: &PutWords<'_>,
 ) -> Result<Option<PutRequest>, AllocError>
     ensures { IfOk result
-        (λ put. put ≡ put_from gathered.now class.now destination.now source_name.now destination_name.now file.now) }
+        (λ put. put ≡ put_from gathered.now words.now.class.now words.now.destination.now words.now.source_name.now
+        words.now.destination_name.now words.now.file.now) }
 {
-    let Some(class) = class_of(class) else {
+    let Some(class) = class_of(words.class) else {
         return Ok(None);
     };
-    let Some(destination) = number_of(destination) else {
+    let Some(destination) = number_of(words.destination) else {
         return Ok(None);
     };
-    let Some(source_name) = name_of(source_name) else {
+    let Some(source_name) = name_of(words.source_name) else {
         return Ok(None);
     };
-    let Some(destination_name) = name_of(destination_name) else {
+    let Some(destination_name) = name_of(words.destination_name) else {
         return Ok(None);
     };
-    match file_of(alloc, gathered, file)? {
+    match file_of(alloc, gathered, words.file)? {
         Some(file) => put_made(
             alloc,
             destination,

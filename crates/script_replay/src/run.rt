@@ -27,9 +27,10 @@ pub enum AnswerPace {
     ByLines,
 }
 
-// The line that is played, and its output.
+// The line that is played and its output, and the allocator for both.
 #[derive(Drop)]
 struct Scratch {
+    alloc: Global,
     line: Vec<u8>,
     text: String,
 }
@@ -127,11 +128,12 @@ fn play_lines<B: BufRead, W: Write>(
         → Ends start result lines old (W.contents writer.new) buffer.new.items }
 {
     let mut scratch = Scratch {
+        alloc,
         line: Vec::new(alloc),
         text: String::new(alloc),
     };
     for count in 0..LINES {
-        if !turn(alloc, session, &mut scratch, reader, writer, buffer, count)? {
+        if !turn(session, &mut scratch, reader, writer, buffer, count)? {
             return Ok(());
         }
         hand_on(writer, buffer, pace)?;
@@ -168,7 +170,6 @@ fn ends<B: BufRead>(reader: &mut B, line: &mut Vec<u8>) -> Result<(), ReplayFaul
 
 // Plays the next line; answers whether there was one.
 fn turn<B: BufRead, W: Write>(
-    alloc: Global,
     session: &mut Session,
     scratch: &mut Scratch,
     reader: &mut B,
@@ -184,7 +185,8 @@ fn turn<B: BufRead, W: Write>(
     ensures bounded { OnOk result (length buffer.new.items
         ≤ max (length buffer.old.items) (max BLOCK_OCTETS (length (string_bytes scratch.new.text)))) }
 {
-    let Scratch { line, text } = scratch;
+    let alloc = scratch.alloc;
+    let Scratch { line, text, .. } = scratch;
     match next_line(reader, line)? {
         NextLine::End => return Ok(false),
         NextLine::TooLong => return Err(ReplayFault::BadLine(count + 1)),

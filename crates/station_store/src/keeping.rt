@@ -9,24 +9,32 @@ use disk::{Disk, Fault};
 use std::alloc::Global;
 use whole_files::{keep_file, replace_file};
 
-/// Keeps a file under a path, or as a numbered copy there, and returns its path. The folders on the path `known` are
-/// known to stay. Parts are numbered from `next` on, and `next` is the number behind the last that was tried.
+/// A received file: its path below the store's folder, and its octets.
+#[derive(Clone, Copy, Debug)]
+pub struct ReceivedFile<'a> {
+    pub path: &'a str,
+    pub octets: &'a [u8],
+}
+
+/// Keeps a file under its path, or as a numbered copy there, and returns the path of what it kept. The folders on the
+/// path `known` are known to stay. Parts are numbered from `next` on, and `next` is the number behind the last that was
+/// tried.
 pub fn keep_at<D: Disk>(
     disk: &mut D,
     alloc: Global,
     clash: Clash,
     known: &str,
-    path: &str,
+    file: &ReceivedFile<'_>,
     next: &mut u64,
-    octets: &[u8],
 ) -> Result<String, Fault>
     requires { IsReached (D.done disk.old) known.now }
-    ensures kept { IfOk result (λ place. Stores clash path.now octets.now (Some (string_bytes place)) (D.done disk.old) (D.done disk.new)) }
-    ensures not_kept { OnErr result (Stores clash path.now octets.now None (D.done disk.old) (D.done disk.new)) }
-    ensures place { IfOk result (λ place. IsPlaceFor clash path.now (string_bytes place)) }
-    ensures holds { IfOk result (λ place. HoldsAfterCut (D.done disk.new) (string_bytes place) octets.now) }
+    ensures kept { IfOk result (λ place. Stores clash file.now.path.now file.now.octets.now (Some (string_bytes place)) (D.done disk.old) (D.done disk.new)) }
+    ensures not_kept { OnErr result (Stores clash file.now.path.now file.now.octets.now None (D.done disk.old) (D.done disk.new)) }
+    ensures place { IfOk result (λ place. IsPlaceFor clash file.now.path.now (string_bytes place)) }
+    ensures holds { IfOk result (λ place. HoldsAfterCut (D.done disk.new) (string_bytes place) file.now.octets.now) }
     ensures reached { IfOk result (λ place. IsReached (D.done disk.new) (string_bytes place)) }
 {
+    let ReceivedFile { path, octets } = *file;
     reach(disk, known, path)?;
     refuse_folder(disk, path)?;
     match clash {

@@ -3,7 +3,7 @@ ghost use Rattle.std.specs.Option.{option_map};
 ghost use Rattle.station_store.specs.Sources.{forgotten, refused};
 ghost use Rattle.station_store.specs.Stations.{ready_place, Prepares};
 
-use crate::keeping::keep_at;
+use crate::keeping::{ReceivedFile, keep_at};
 use crate::names::path_of;
 use crate::prepared::Prepared;
 use crate::settings::{Clash, Layout};
@@ -144,14 +144,17 @@ impl<D: Disk + Drop> StationStore<D> {
             self.fault = Some(Fault::MayPass);
             return Prepared::Later;
         };
+        let file = ReceivedFile {
+            path,
+            octets: octets.as_slice(),
+        };
         match keep_at(
             &mut self.disk,
             self.alloc,
             self.clash,
             self.stored_as.as_str(),
-            path,
+            &file,
             &mut self.next_part,
-            octets.as_slice(),
         ) {
             Ok(place) => {
                 self.ready = Some(TriedFile {
@@ -207,14 +210,14 @@ impl<D: Disk + Drop> Filestore for StationStore<D> {
             self.failures += 1;
             return Err(StoreFault::BadName);
         };
+        let file = ReceivedFile { path, octets };
         match keep_at(
             &mut self.disk,
             self.alloc,
             self.clash,
             self.stored_as.as_str(),
-            path,
+            &file,
             &mut self.next_part,
-            octets,
         ) {
             Ok(place) => {
                 self.stored_as = place;

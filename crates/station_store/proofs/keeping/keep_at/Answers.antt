@@ -23,20 +23,20 @@ keep-requires g c = reached_later NoPath NothingNew _ _ c.refuse_folder.ensures 
 
 pub returns-in-Replace-clause-kept : goal.returns-in-Replace-clause-kept
 returns-in-Replace-clause-kept g c =
-    subst (λ (clash : Clash). IfOk c.replace.result (λ place. Stores clash c.args.path.now c.args.octets.now (Some (string_bytes place)) (g.D.Disk.done c.args.disk.now) (g.D.Disk.done c.replace.new.disk))) (sym c.in-Replace.is)
+    subst (λ (clash : Clash). IfOk c.replace.result (λ place. Stores clash c.args.file.now.path.now c.args.file.now.octets.now (Some (string_bytes place)) (g.D.Disk.done c.args.disk.now) (g.D.Disk.done c.replace.new.disk))) (sym c.in-Replace.is)
     (then_kept Replace _ _ _ _ _ (both _ _ _ c.reach.ensures.same c.refuse_folder.ensures) string_bytes c.replace.result c.replace.ensures.kept)
 
 pub returns-in-Replace-clause-not_kept : goal.returns-in-Replace-clause-not_kept
 returns-in-Replace-clause-not_kept g c =
-    subst (λ (clash : Clash). OnErr c.replace.result (Stores clash c.args.path.now c.args.octets.now None (g.D.Disk.done c.args.disk.now) (g.D.Disk.done c.replace.new.disk))) (sym c.in-Replace.is)
+    subst (λ (clash : Clash). OnErr c.replace.result (Stores clash c.args.file.now.path.now c.args.file.now.octets.now None (g.D.Disk.done c.args.disk.now) (g.D.Disk.done c.replace.new.disk))) (sym c.in-Replace.is)
     (then_not_kept Replace _ _ _ _ _ (both _ _ _ c.reach.ensures.same c.refuse_folder.ensures) c.replace.result c.replace.ensures.not_kept)
 
 pub returns-in-Keep-clause-kept : goal.returns-in-Keep-clause-kept
 returns-in-Keep-clause-kept g c =
-    subst (λ (clash : Clash). IfOk c.keep.result (λ place. Stores clash c.args.path.now c.args.octets.now (Some (string_bytes place)) (g.D.Disk.done c.args.disk.now) (g.D.Disk.done c.keep.new.disk))) (sym c.in-Keep.is)
+    subst (λ (clash : Clash). IfOk c.keep.result (λ place. Stores clash c.args.file.now.path.now c.args.file.now.octets.now (Some (string_bytes place)) (g.D.Disk.done c.args.disk.now) (g.D.Disk.done c.keep.new.disk))) (sym c.in-Keep.is)
     (then_kept Keep _ _ _ _ _ (both _ _ _ c.reach.ensures.same c.refuse_folder.ensures) string_bytes c.keep.result c.keep.ensures.kept)
 
 pub returns-in-Keep-clause-not_kept : goal.returns-in-Keep-clause-not_kept
 returns-in-Keep-clause-not_kept g c =
-    subst (λ (clash : Clash). OnErr c.keep.result (Stores clash c.args.path.now c.args.octets.now None (g.D.Disk.done c.args.disk.now) (g.D.Disk.done c.keep.new.disk))) (sym c.in-Keep.is)
+    subst (λ (clash : Clash). OnErr c.keep.result (Stores clash c.args.file.now.path.now c.args.file.now.octets.now None (g.D.Disk.done c.args.disk.now) (g.D.Disk.done c.keep.new.disk))) (sym c.in-Keep.is)
     (then_not_kept Keep _ _ _ _ _ (both _ _ _ c.reach.ensures.same c.refuse_folder.ensures) c.keep.result c.keep.ensures.not_kept)
