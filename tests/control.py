@@ -466,6 +466,20 @@ def stale_and_live_sockets():
 
 
 @case
+def longest_path():
+    """A path has at most 105 octets, also where a server died while it replaced a stale socket."""
+    longest = "c" * 105
+    for path in (longest, f"{longest}.t"):
+        with contextlib.closing(socket.socket(socket.AF_UNIX)) as stale:
+            stale.bind(path)
+    with server(path=longest) as one:
+        one.quits()
+    with server(path=f"{longest}c") as one:
+        want(one.ended(), (1, "cfdp_server: bind fault\n"))
+    want([name for name in os.listdir() if name.startswith("c" * 9)], [])
+
+
+@case
 def two_starts_at_once():
     """Of several servers that start at the same time, where a stale socket is, one serves and the others end."""
     for _ in range(5):

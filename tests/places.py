@@ -145,6 +145,9 @@ def sockets():
          ["cfdp_server: bind fault", "192.0.2.1:7002: this machine does not have the address"])
     is_refused("bind", "f: exists, but is not a socket", "--control", "f")
     is_refused("bind", "gone: is not there", "--control", "gone/c")
+    longest = "s" * 105
+    is_refused("bind", "gone: is not there", "--control", longest, "--status-socket", "gone/c")
+    is_refused("bind", f"{longest}s: too long for a socket; allowed: 105 octets", "--control", f"{longest}s")
     with listening("live"):
         for options in (("--control", "live"), ("--control", "c", "--status-socket", "live"), ("--control", "live", "--status-socket", "c")):
             is_refused("bind", "live: another program listens there", *options)

@@ -15,7 +15,7 @@ const RESERVED_OCTETS: usize = 1_024;
 /// How many octets a command may have, its line feed included.
 pub const COMMAND_OCTETS: u64 = 131_072;
 
-/// Leaves a client's commands at the desk, one at a time: the next is read once the one before was answered. The file
+/// Leaves a client's commands at the desk, one at a time: the next is read once the one before has its reply. The file
 /// of a Put is read here, so only this client waits for it. Returns when the lines end, reading fails, a line is too
 /// long, memory runs out, or the client's way or the desk is closed. A last line without a line feed is not a command. Of a
 /// client that only watches, other lines than those that look at the station are refused.
@@ -62,7 +62,7 @@ pub(crate) fn read_commands<R: Wait + Clock, F: FileReader, B: BufRead + Drop>(
     }
 }
 
-/// Leaves one parsed line and waits for its answer; answers whether more may be read.
+/// Leaves one parsed line and waits for its reply; returns whether more may be read.
 pub(crate) fn ask<R: Wait>(rt: &R, asker: Asker, said: Said, desk: &Desk, seats: &Seats) -> bool {
     seats.ask(rt, asker) && desk.leave_line(rt, said, Some(asker)) && seats.wait_answer(rt, asker)
 }

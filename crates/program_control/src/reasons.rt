@@ -5,8 +5,8 @@ use std::alloc::{AllocError, Global};
 use std::net::Net;
 use std::rt::Files;
 
-// The most octets of a socket's path, which leave room for the number of its temporary path.
-const PATH_OCTETS: usize = unix_sockets::PATH_OCTETS - 3;
+// The most octets of a socket's path, which leave two for the number of its temporary path, or for the guard's path.
+const PATH_OCTETS: usize = unix_sockets::PATH_OCTETS - 2;
 
 /// Adds a line that says why no control socket can be made at a path. To find that out, it is tried again.
 pub fn push_control_reason<R: Files + Net>(

@@ -121,7 +121,7 @@ impl ControlSocket {
         });
     }
 
-    /// Lets nobody in any more, and makes all clients leave: answers that wait are still sent, as far as they are taken
+    /// Lets nobody in any more, and makes all clients leave: replies that wait are still sent, as far as they are taken
     /// at once.
     pub fn close<R: Files + Wait + Clock>(&self, rt: &R, path: &str, seats: &Seats) {
         seats.close(rt);
@@ -166,7 +166,7 @@ fn place<R: Files + Net>(rt: &R, alloc: Global, own: &str, path: &str) -> Result
     if !is_stale(rt, path)? {
         return link(rt, own, path);
     }
-    let Ok(guard) = format!(in alloc; "{path}.take") else {
+    let Ok(guard) = format!(in alloc; "{path}.t") else {
         return Err(ControlFault::System);
     };
     replace(rt, own, guard.as_str())?;

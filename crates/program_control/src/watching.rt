@@ -9,7 +9,7 @@ use std::sync::Wait;
 // What any line gets that does more than look at the station, with the line that ends an answer.
 const NOT_HERE: &[u8] = b"refused NotHere\n.\n";
 
-/// Leaves a watcher's line at the desk, if it only looks at the station, and waits for its answer. Any other line is refused here.
+/// Leaves a watcher's line at the desk, if it only looks at the station, and waits for its reply. Any other line is refused here.
 /// Answers whether more may be read.
 pub(crate) fn look<R: Wait>(
     rt: &R,
