@@ -88,17 +88,9 @@ pub(crate) fn percent_of(octets: u64, size: u64) -> u64
 
 /// Adds a bar of ten places, one for each ten percent.
 pub(crate) fn push_bar(text: &mut String, percent: u64) -> Result<(), AllocError> {
-    text.push_str(match percent / 10 {
-        0 => "[..........]",
-        1 => "[#.........]",
-        2 => "[##........]",
-        3 => "[###.......]",
-        4 => "[####......]",
-        5 => "[#####.....]",
-        6 => "[######....]",
-        7 => "[#######...]",
-        8 => "[########..]",
-        9 => "[#########.]",
-        _ => "[##########]",
-    })
+    text.push('[')?;
+    for place in 0..10 {
+        text.push(if place < percent / 10 { '#' } else { '.' })?;
+    }
+    text.push(']')
 }

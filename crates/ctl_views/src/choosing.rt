@@ -3,6 +3,7 @@ ghost use Rattle.std.specs.Prelude.{◌≡◌};
 ghost use Rattle.ctl_views.specs.Choices.{is_failed, is_of_remote, is_server, is_shown};
 
 use crate::ends::{End, end_in};
+use crate::events::{Transaction, transaction_in};
 use crate::fields::{number_in, text_in, value_of};
 use crate::sums::is_lost;
 use json::{Scratch, Value};
@@ -140,10 +141,9 @@ fn live_in(alloc: Global, value: &Value<'_>) -> Result<Option<Live>, AllocError>
     if !matches!(topic_of(value), Topic::Going) {
         return Ok(None);
     }
-    let (Some(user), Some(source), Some(seq)) = (
+    let (Some(user), Some(Transaction { source, seq })) = (
         text_in(value, member::USER),
-        number_in(value, member::SOURCE),
-        number_in(value, member::SEQ),
+        transaction_in(value),
     ) else {
         return Ok(None);
     };

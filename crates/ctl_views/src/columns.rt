@@ -2,8 +2,8 @@
 use crate::columns::Column::{Left, Right};
 use crate::parts::Part;
 use crate::parts::Part::{
-    Age, Bar, Condition, Direction, End, Held, Name, Number, Octets, Percent, Rate, SomeNumber,
-    SomeNumbers, SomeOctets, SomeText, Text, Words,
+    Age, Bar, Condition, Direction, End, Held, Name, Names, Number, Octets, Percent, Rate,
+    SomeNumber, SomeNumbers, SomeOctets, SomeText, Text, Words,
 };
 use station_names::{kind, member};
 
@@ -38,7 +38,7 @@ impl Column {
 }
 
 /// The lines for which a table has a row.
-#[derive(Clone, Copy)]
+#[derive(Clone, Copy, PartialEq, Eq)]
 pub(crate) enum Rows<'a> {
     /// Each line of this kind, except transactions that have ended.
     Of(&'a str),
@@ -46,33 +46,35 @@ pub(crate) enum Rows<'a> {
     Ended,
 }
 
-/// How the rows of a table are coloured.
-#[derive(Clone, Copy)]
-pub(crate) enum Shade {
-    Plain,
-    /// Good if the file is kept, and else bad.
-    ByEnd,
-    /// Bad if there is a notice.
-    ByNotice,
-    /// Faint if the link is held.
-    ByHold,
-}
-
 /// A table.
 #[derive(Clone, Copy)]
 pub(crate) struct Layout {
     pub(crate) rows: Rows<'static>,
     pub(crate) title: &'static str,
-    pub(crate) shade: Shade,
     pub(crate) columns: &'static [Column],
 }
+
+// Columns that several tables have.
+const TRANSACTION: Column = Left(
+    "transaction",
+    &[
+        Number(member::SOURCE, "?"),
+        Words("."),
+        Number(member::SEQ, "?"),
+    ],
+);
+
+const USER: Column = Left("user", &[Text(member::USER, "?")]);
+
+const PEER: Column = Left("peer", &[Direction, Number(member::PEER, "?")]);
+
+const FILE: Column = Left("file", &[Names, SomeText(" (", member::NOTICE, ")")]);
 
 /// The tables, in the order in which they are shown.
 pub(crate) const LAYOUTS: [Layout; 12] = [
     Layout {
         rows: Rows::Of(kind::USER),
         title: "Users",
-        shade: Shade::Plain,
         columns: &[
             Right("waiting", &[Number(member::WAITING, "-")]),
             Right("of", &[Number(member::CAPACITY, "-")]),
@@ -82,18 +84,10 @@ pub(crate) const LAYOUTS: [Layout; 12] = [
     Layout {
         rows: Rows::Of(kind::TRANSACTION),
         title: "Active",
-        shade: Shade::ByNotice,
         columns: &[
-            Left(
-                "transaction",
-                &[
-                    Number(member::SOURCE, "?"),
-                    Words("."),
-                    Number(member::SEQ, "?"),
-                ],
-            ),
-            Left("user", &[Text(member::USER, "?")]),
-            Left("peer", &[Direction, Number(member::PEER, "?")]),
+            TRANSACTION,
+            USER,
+            PEER,
             Left("state", &[Text(member::STATE, "?")]),
             Left("progress", &[Bar]),
             Right("", &[Percent]),
@@ -106,59 +100,34 @@ pub(crate) const LAYOUTS: [Layout; 12] = [
             ),
             Right("rate", &[Rate]),
             Right("last event", &[Age]),
-            Left(
-                "file",
-                &[
-                    Name(member::FILE, member::FILE_HEX),
-                    Words(" to "),
-                    Name(member::TO, member::TO_HEX),
-                    SomeText(" (", member::NOTICE, ")"),
-                ],
-            ),
+            FILE,
         ],
     },
     Layout {
         rows: Rows::Of(kind::QUEUED),
         title: "Outbox",
-        shade: Shade::Plain,
         columns: &[
             Right("number", &[Number(member::NUMBER, "-")]),
-            Left("user", &[Text(member::USER, "?")]),
+            USER,
             Right("to", &[Number(member::DESTINATION, "-")]),
             Right("class", &[Number(member::CLASS, "-")]),
             Left("since", &[Text(member::SINCE, "?")]),
-            Left(
-                "file",
-                &[
-                    Name(member::FILE, member::FILE_HEX),
-                    Words(" to "),
-                    Name(member::TO, member::TO_HEX),
-                ],
-            ),
+            Left("file", &[Names]),
         ],
     },
     Layout {
         rows: Rows::Of(kind::READING),
         title: "Reading",
-        shade: Shade::Plain,
         columns: &[
             Left("since", &[Text(member::SINCE, "?")]),
-            Left("file", &[Name(member::FILE, member::FILE_HEX)]),
+            Left("file", &[Name(member::FILE)]),
         ],
     },
     Layout {
         rows: Rows::Of(kind::STORING),
         title: "Storing",
-        shade: Shade::Plain,
         columns: &[
-            Left(
-                "transaction",
-                &[
-                    Number(member::SOURCE, "?"),
-                    Words("."),
-                    Number(member::SEQ, "?"),
-                ],
-            ),
+            TRANSACTION,
             Left("since", &[Text(member::SINCE, "?")]),
             Left("hindered by", &[Text(member::WHY, "-")]),
         ],
@@ -166,9 +135,8 @@ pub(crate) const LAYOUTS: [Layout; 12] = [
     Layout {
         rows: Rows::Of(kind::PARKED),
         title: "Parked",
-        shade: Shade::Plain,
         columns: &[
-            Left("user", &[Text(member::USER, "?")]),
+            USER,
             Right("lane", &[Number(member::LANE, "-")]),
             Right("datagrams", &[Number(member::DATAGRAMS, "-")]),
             Right("transactions", &[Number(member::TRANSACTIONS, "-")]),
@@ -180,35 +148,18 @@ pub(crate) const LAYOUTS: [Layout; 12] = [
     Layout {
         rows: Rows::Ended,
         title: "Ended",
-        shade: Shade::ByEnd,
         columns: &[
-            Left(
-                "transaction",
-                &[
-                    Number(member::SOURCE, "?"),
-                    Words("."),
-                    Number(member::SEQ, "?"),
-                ],
-            ),
-            Left("user", &[Text(member::USER, "?")]),
-            Left("peer", &[Direction, Number(member::PEER, "?")]),
+            TRANSACTION,
+            USER,
+            PEER,
             Right("size", &[Octets(member::SIZE, "-")]),
             Left("end", &[End]),
-            Left(
-                "file",
-                &[
-                    Name(member::FILE, member::FILE_HEX),
-                    Words(" to "),
-                    Name(member::TO, member::TO_HEX),
-                    SomeText(" (", member::NOTICE, ")"),
-                ],
-            ),
+            FILE,
         ],
     },
     Layout {
         rows: Rows::Of(kind::REMOTE),
         title: "Remotes",
-        shade: Shade::ByHold,
         columns: &[
             Right("entity", &[Number(member::ID, "-")]),
             Right("in", &[Number(member::DATAGRAMS_IN, "-")]),
@@ -229,7 +180,6 @@ pub(crate) const LAYOUTS: [Layout; 12] = [
     Layout {
         rows: Rows::Of(kind::REFUSAL),
         title: "Refusals",
-        shade: Shade::Plain,
         columns: &[
             Right("count", &[Number(member::COUNT, "-")]),
             Left(
@@ -251,7 +201,6 @@ pub(crate) const LAYOUTS: [Layout; 12] = [
     Layout {
         rows: Rows::Of(kind::ENDED),
         title: "Ends",
-        shade: Shade::Plain,
         columns: &[
             Right("count", &[Number(member::COUNT, "-")]),
             Left("role", &[Text(member::ROLE, "?")]),
@@ -262,7 +211,6 @@ pub(crate) const LAYOUTS: [Layout; 12] = [
     Layout {
         rows: Rows::Of(kind::DELIVERED),
         title: "Delivered",
-        shade: Shade::Plain,
         columns: &[
             Right("files", &[Number(member::FILES, "-")]),
             Right("octets", &[Octets(member::OCTETS, "-")]),
@@ -272,16 +220,8 @@ pub(crate) const LAYOUTS: [Layout; 12] = [
     Layout {
         rows: Rows::Of(kind::STORE),
         title: "Last store",
-        shade: Shade::Plain,
         columns: &[
-            Left(
-                "transaction",
-                &[
-                    Number(member::SOURCE, "?"),
-                    Words("."),
-                    Number(member::SEQ, "?"),
-                ],
-            ),
+            TRANSACTION,
             Right("microseconds", &[Number(member::MICROSECONDS, "-")]),
             Left("at", &[Text(member::AT, "?")]),
         ],

@@ -48,14 +48,7 @@ pub struct Transaction {
 pub fn read_event(alloc: Global, line: &str) -> Result<Option<Event>, AllocError> {
     let mut scratch = Scratch::new(alloc);
     match value_of(alloc, line, &mut scratch)? {
-        Some(value) => event_in(alloc, &value),
-        None => Ok(None),
-    }
-}
-
-fn event_in(alloc: Global, value: &Value<'_>) -> Result<Option<Event>, AllocError> {
-    match value {
-        Value::Object(_) => Ok(Some(event_of(alloc, value)?)),
+        Some(value) if matches!(value, Value::Object(_)) => Ok(Some(event_of(alloc, &value)?)),
         _ => Ok(None),
     }
 }
@@ -91,27 +84,16 @@ pub(crate) fn transaction_in(value: &Value<'_>) -> Option<Transaction> {
 }
 
 fn step_of(value: &Value<'_>) -> Step {
-    match text_in(value, member::KIND) {
-        Some(kind::PUT) => started_in(value),
-        Some(kind::UNSENT) => unsent_in(value),
-        Some(kind::INDICATION) if is_end(value) => {
+    match (
+        text_in(value, member::KIND),
+        number_in(value, member::QUEUED),
+    ) {
+        (Some(kind::PUT), Some(number)) => Step::Started(number),
+        (Some(kind::UNSENT), Some(number)) => Step::Unsent(number),
+        (Some(kind::INDICATION), _) if is_end(value) => {
             Step::Ended(end_in(value).unwrap_or(End::Lost))
         }
         _ => Step::Other,
-    }
-}
-
-fn started_in(value: &Value<'_>) -> Step {
-    match number_in(value, member::QUEUED) {
-        Some(number) => Step::Started(number),
-        None => Step::Other,
-    }
-}
-
-fn unsent_in(value: &Value<'_>) -> Step {
-    match number_in(value, member::QUEUED) {
-        Some(number) => Step::Unsent(number),
-        None => Step::Other,
     }
 }
 

@@ -48,19 +48,13 @@ pub(crate) fn is_set(value: &Value<'_>, name: &str) -> bool {
 
 /// A member that is a moment, in milliseconds.
 pub(crate) fn moment_in(value: &Value<'_>, name: &str) -> Option<u64> {
-    match text_in(value, name) {
-        Some(moment) => milliseconds_of(moment),
-        None => None,
-    }
+    milliseconds_of(text_in(value, name)?)
 }
 
 /// How much of a file is there, in whole percent; `None` if its size isn't known.
 pub(crate) fn share_in(value: &Value<'_>) -> Option<u64> {
     let octets = number_in(value, member::OCTETS).unwrap_or(0);
-    match number_in(value, member::SIZE) {
-        Some(size) => Some(percent_of(octets, size)),
-        None => None,
-    }
+    Some(percent_of(octets, number_in(value, member::SIZE)?))
 }
 
 /// Adds a file's name: its text, or for octets that aren't UTF-8, those in hex that aren't ASCII letters; a question
@@ -70,12 +64,12 @@ pub(crate) fn push_name(
     text: &mut String,
     value: &Value<'_>,
     name: &str,
-    hex_name: &str,
 ) -> Result<(), AllocError> {
     if let Some(word) = text_in(value, name) {
         return text.push_str(word);
     }
-    match text_in(value, hex_name) {
+    let hex_name = format!(in alloc; "{name}{}", member::HEX_ENDING)?;
+    match text_in(value, hex_name.as_str()) {
         Some(digits) => push_decoded(alloc, text, digits),
         None => text.push('?'),
     }

@@ -90,22 +90,12 @@ impl History {
         self.skipped = self.skipped.saturating_add(1);
     }
 
-    /// Reads the next line; answers the transaction that it ends, if it ends one.
+    /// Reads the next line; returns the transaction that it ends, if it ends one.
     pub fn take(&mut self, line: &str) -> Result<Option<Ended>, AllocError> {
         let alloc = self.alloc;
         let mut scratch = Scratch::new(alloc);
         match value_of(alloc, line, &mut scratch)? {
-            Some(value) => self.take_value(&value),
-            None => {
-                self.skip();
-                Ok(None)
-            }
-        }
-    }
-
-    fn take_value(&mut self, value: &Value<'_>) -> Result<Option<Ended>, AllocError> {
-        match value {
-            Value::Object(_) => self.take_event(value),
+            Some(value) if matches!(value, Value::Object(_)) => self.take_event(&value),
             _ => {
                 self.skip();
                 Ok(None)
@@ -115,21 +105,17 @@ impl History {
 
     fn take_event(&mut self, value: &Value<'_>) -> Result<Option<Ended>, AllocError> {
         match (text_in(value, member::KIND), text_in(value, member::NAME)) {
-            (Some(kind::START), _) => {
-                self.start(number_in(value, member::ID));
-                Ok(None)
-            }
-            (Some(kind::PUT), _) => {
-                self.begin(value, Way::Sent, number_in(value, member::PEER))?;
-                Ok(None)
-            }
+            (Some(kind::START), _) => self.start(number_in(value, member::ID)),
+            (Some(kind::PUT), _) => self.begin(value, Way::Sent, number_in(value, member::PEER))?,
             (Some(kind::INDICATION), Some("Metadata-Recv")) => {
-                self.begin(value, Way::Received, number_in(value, member::SOURCE))?;
-                Ok(None)
+                self.begin(value, Way::Received, number_in(value, member::SOURCE))?
             }
-            (Some(kind::INDICATION), Some("Transaction-Finished" | "Abandoned")) => self.end(value),
-            _ => Ok(None),
+            (Some(kind::INDICATION), Some("Transaction-Finished" | "Abandoned")) => {
+                return self.end(value);
+            }
+            _ => (),
         }
+        Ok(None)
     }
 
     // Forgets the transactions of the run before.
@@ -149,8 +135,8 @@ impl History {
             at: moment_in(value, member::AT),
             way,
             peer,
-            file: name_in(self.alloc, value, member::FILE, member::FILE_HEX)?,
-            to: name_in(self.alloc, value, member::TO, member::TO_HEX)?,
+            file: name_in(self.alloc, value, member::FILE)?,
+            to: name_in(self.alloc, value, member::TO)?,
             size: number_in(value, member::SIZE),
         };
         let _again = self.ended.remove(&(source, seq));
@@ -231,13 +217,8 @@ fn span_of(from: Option<u64>, to: Option<u64>) -> Option<u64> {
     to?.checked_sub(from?)
 }
 
-fn name_in(
-    alloc: Global,
-    value: &Value<'_>,
-    name: &str,
-    hex_name: &str,
-) -> Result<String, AllocError> {
+fn name_in(alloc: Global, value: &Value<'_>, name: &str) -> Result<String, AllocError> {
     let mut text = String::new(alloc);
-    push_name(alloc, &mut text, value, name, hex_name)?;
+    push_name(alloc, &mut text, value, name)?;
     Ok(text)
 }

@@ -1,4 +1,5 @@
 //! Reads single lines of a status.
+use crate::events::{Transaction, transaction_in};
 use crate::fields::{number_in, text_in, value_of};
 use json::{Scratch, Value};
 use station_names::{kind, member, word};
@@ -36,25 +37,12 @@ pub fn read_status_line(alloc: Global, line: &str) -> Result<StatusLine, AllocEr
 }
 
 fn line_of(alloc: Global, value: &Value<'_>) -> Result<StatusLine, AllocError> {
-    match text_in(value, member::KIND) {
-        Some(kind::USER) => user_in(alloc, value),
-        Some(kind::REMOTE) => Ok(remote_in(value)),
-        Some(kind::TRANSACTION) => Ok(sending_in(value).unwrap_or(StatusLine::Other)),
+    let (name, id) = (text_in(value, member::NAME), number_in(value, member::ID));
+    match (text_in(value, member::KIND), name, id) {
+        (Some(kind::USER), Some(name), _) => Ok(StatusLine::User(String::from_str(alloc, name)?)),
+        (Some(kind::REMOTE), _, Some(id)) => Ok(StatusLine::Remote(id)),
+        (Some(kind::TRANSACTION), _, _) => Ok(sending_in(value).unwrap_or(StatusLine::Other)),
         _ => Ok(StatusLine::Other),
-    }
-}
-
-fn user_in(alloc: Global, value: &Value<'_>) -> Result<StatusLine, AllocError> {
-    match text_in(value, member::NAME) {
-        Some(name) => Ok(StatusLine::User(String::from_str(alloc, name)?)),
-        None => Ok(StatusLine::Other),
-    }
-}
-
-fn remote_in(value: &Value<'_>) -> StatusLine {
-    match number_in(value, member::ID) {
-        Some(id) => StatusLine::Remote(id),
-        None => StatusLine::Other,
     }
 }
 
@@ -62,8 +50,7 @@ fn sending_in(value: &Value<'_>) -> Option<StatusLine> {
     if text_in(value, member::ROLE) != Some(word::SENDER) {
         return None;
     }
-    let source = number_in(value, member::SOURCE)?;
-    let seq = number_in(value, member::SEQ)?;
+    let Transaction { source, seq } = transaction_in(value)?;
     let octets = number_in(value, member::OCTETS)?;
     let size = number_in(value, member::SIZE)?;
     Some(StatusLine::Sending(Progress {

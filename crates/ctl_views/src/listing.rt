@@ -4,54 +4,21 @@ use crate::ends::End;
 use crate::history::{Ended, Way};
 use crate::page::{Page, Tone};
 use crate::sums::Sum;
+use crate::telling::push_at;
 use json::Writer;
 use station_names::member;
 use std::alloc::{AllocError, Global};
 
-// How many columns the parts of a line have at least.
-const PEER_COLUMNS: usize = 10;
-
-const NAME_COLUMNS: usize = 16;
-
-const AMOUNT_COLUMNS: usize = 10;
-
-const HOW_COLUMNS: usize = 22;
-
 /// Adds a line for a transaction that ended.
 pub fn push_ended(alloc: Global, page: &mut Page, ended: &Ended) -> Result<(), AllocError> {
     let mut line = String::new(alloc);
-    push_moment(&mut line, ended.at.as_str())?;
-    push_padded(
-        &mut line,
-        peer_text(alloc, ended)?.as_str(),
-        PEER_COLUMNS,
-        false,
-    )?;
-    push_padded(
-        &mut line,
-        name_text(alloc, ended)?.as_str(),
-        NAME_COLUMNS,
-        false,
-    )?;
-    push_padded(
-        &mut line,
-        size_text(alloc, ended.size)?.as_str(),
-        AMOUNT_COLUMNS,
-        true,
-    )?;
-    push_padded(
-        &mut line,
-        time_text(alloc, ended.took)?.as_str(),
-        AMOUNT_COLUMNS,
-        true,
-    )?;
-    push_padded(
-        &mut line,
-        rate_text(alloc, ended)?.as_str(),
-        AMOUNT_COLUMNS,
-        true,
-    )?;
-    push_padded(&mut line, ended.how.as_str(), HOW_COLUMNS, false)?;
+    push_at(&mut line, ended.at.as_str())?;
+    push_left(&mut line, peer_text(alloc, ended)?.as_str(), 10)?;
+    push_left(&mut line, name_text(alloc, ended)?.as_str(), 16)?;
+    push_right(&mut line, size_text(alloc, ended.size)?.as_str(), 10)?;
+    push_right(&mut line, time_text(alloc, ended.took)?.as_str(), 10)?;
+    push_right(&mut line, rate_text(alloc, ended)?.as_str(), 10)?;
+    push_left(&mut line, ended.how.as_str(), 22)?;
     let (file, to) = (ended.file.as_str(), ended.to.as_str());
     write!(line, "  {file} to {to}")?;
     page.push_line(tone_of(ended.end), line.as_str())
@@ -65,31 +32,23 @@ fn tone_of(end: End) -> Tone {
     }
 }
 
-// Adds a moment with a space between its day and its time.
-fn push_moment(line: &mut String, moment: &str) -> Result<(), AllocError> {
-    match moment.split_once('T') {
-        Some((day, time)) => write!(line, "{day} {time}"),
-        None => line.push_str(moment),
-    }
+// Adds two spaces, and a text at the left of at least `columns` columns.
+fn push_left(line: &mut String, text: &str, columns: usize) -> Result<(), AllocError> {
+    line.push_str("  ")?;
+    line.push_str(text)?;
+    push_spaces(line, columns.saturating_sub(text.len()))
 }
 
-// Adds two spaces and a text in at least `columns` columns.
-fn push_padded(
-    line: &mut String,
-    text: &str,
-    columns: usize,
-    is_right: bool,
-) -> Result<(), AllocError> {
-    let lacking = columns.saturating_sub(text.len());
+// Adds two spaces, and a text at the right of at least `columns` columns.
+fn push_right(line: &mut String, text: &str, columns: usize) -> Result<(), AllocError> {
     line.push_str("  ")?;
-    if !is_right {
-        line.push_str(text)?;
-    }
-    for _ in 0..lacking {
+    push_spaces(line, columns.saturating_sub(text.len()))?;
+    line.push_str(text)
+}
+
+fn push_spaces(line: &mut String, count: usize) -> Result<(), AllocError> {
+    for _ in 0..count {
         line.push(' ')?;
-    }
-    if is_right {
-        line.push_str(text)?;
     }
     Ok(())
 }

@@ -19,8 +19,10 @@ pub(crate) enum Part {
     Text(&'static str, &'static str),
     /// An amount of octets, or a text in its place if it is missing.
     Octets(&'static str, &'static str),
-    /// A file's name, from its two members.
-    Name(&'static str, &'static str),
+    /// A file's name: text, or octets in hex.
+    Name(&'static str),
+    /// A file's names at its source and at its destination.
+    Names,
     /// Words, a number, and words after it.
     SomeNumber(&'static str, &'static str, &'static str),
     /// Words, the numbers of a list, of which one may be chosen, and words after them; left out as well if the list is empty.
@@ -84,12 +86,13 @@ fn push_part(
 ) -> Result<(), AllocError> {
     match part {
         Part::Words(words) => text.push_str(words),
-        Part::Number(name, missing) => push_number(text, number_in(value, name), missing),
+        Part::Number(name, missing) => push_number(text, "", number_in(value, name), "", missing),
         Part::Text(name, missing) => text.push_str(text_in(value, name).unwrap_or(missing)),
-        Part::Octets(name, missing) => push_amount(text, number_in(value, name), missing),
-        Part::Name(name, hex_name) => push_name(alloc, text, value, name, hex_name),
+        Part::Octets(name, missing) => push_amount(text, "", number_in(value, name), missing),
+        Part::Name(name) => push_name(alloc, text, value, name),
+        Part::Names => push_names(alloc, text, value),
         Part::SomeNumber(front, name, back) => {
-            push_some_number(text, front, number_in(value, name), back)
+            push_number(text, front, number_in(value, name), back, "")
         }
         Part::SomeNumbers(front, name, back) => {
             push_some_numbers(text, front, items_in(value, name), back)
@@ -100,50 +103,52 @@ fn push_part(
             text_in(value, name),
             back,
         ),
-        Part::SomeOctets(front, name) => push_some_octets(text, front, number_in(value, name)),
+        Part::SomeOctets(front, name) => push_amount(text, front, number_in(value, name), ""),
         Part::Condition => push_condition(text, number_in(value, member::CONDITION)),
         Part::End => push_end(text, value),
         Part::Direction => text.push_str(direction_of(text_in(value, member::ROLE))),
         Part::Held => push_held(text, value),
         Part::Bar => push_share_bar(text, share_in(value)),
-        Part::Percent => push_share(text, share_in(value)),
+        Part::Percent => push_number(text, "", share_in(value), "%", ""),
         Part::Rate => push_rate(text, look.rate),
         Part::Age => push_age_since(text, look.now, moment_in(value, member::LAST)),
     }
 }
 
+// Adds a number between two texts, or a text in the place of all three.
 fn push_number(
     text: &mut String,
+    front: &str,
     number: Option<u64>,
-    missing: &'static str,
-) -> Result<(), AllocError> {
-    match number {
-        Some(number) => write!(text, "{number}"),
-        None => text.push_str(missing),
-    }
-}
-
-fn push_amount(
-    text: &mut String,
-    octets: Option<u64>,
-    missing: &'static str,
-) -> Result<(), AllocError> {
-    match octets {
-        Some(octets) => push_octets(text, octets),
-        None => text.push_str(missing),
-    }
-}
-
-fn push_some_number(
-    text: &mut String,
-    front: &'static str,
-    number: Option<u64>,
-    back: &'static str,
+    back: &str,
+    missing: &str,
 ) -> Result<(), AllocError> {
     match number {
         Some(number) => write!(text, "{front}{number}{back}"),
-        None => Ok(()),
+        None => text.push_str(missing),
     }
+}
+
+// Adds an amount of octets after a text, or a text in the place of both.
+fn push_amount(
+    text: &mut String,
+    front: &str,
+    octets: Option<u64>,
+    missing: &str,
+) -> Result<(), AllocError> {
+    match octets {
+        Some(octets) => {
+            text.push_str(front)?;
+            push_octets(text, octets)
+        }
+        None => text.push_str(missing),
+    }
+}
+
+fn push_names(alloc: Global, text: &mut String, value: &Value<'_>) -> Result<(), AllocError> {
+    push_name(alloc, text, value, member::FILE)?;
+    text.push_str(" to ")?;
+    push_name(alloc, text, value, member::TO)
 }
 
 fn push_some_numbers(
@@ -168,12 +173,12 @@ fn push_choice(text: &mut String, numbers: &[Value<'_>]) -> Result<(), AllocErro
     for (place, number) in numbers.iter().enumerate() {
         left_over = left_over.saturating_sub(1);
         text.push_str(word_before(place, left_over))?;
-        push_number(text, number.as_u64(), "?")?;
+        push_number(text, "", number.as_u64(), "", "?")?;
     }
     Ok(())
 }
 
-// What stands before a choice.
+// The text before a choice.
 fn word_before(place: usize, left_over: usize) -> &'static str {
     if place == 0 {
         ""
@@ -192,20 +197,6 @@ fn push_some_text(
 ) -> Result<(), AllocError> {
     match word {
         Some(word) => write!(text, "{front}{word}{back}"),
-        None => Ok(()),
-    }
-}
-
-fn push_some_octets(
-    text: &mut String,
-    front: &'static str,
-    octets: Option<u64>,
-) -> Result<(), AllocError> {
-    match octets {
-        Some(octets) => {
-            text.push_str(front)?;
-            push_octets(text, octets)
-        }
         None => Ok(()),
     }
 }
@@ -236,13 +227,6 @@ fn push_held(text: &mut String, value: &Value<'_>) -> Result<(), AllocError> {
 fn push_share_bar(text: &mut String, percent: Option<u64>) -> Result<(), AllocError> {
     match percent {
         Some(percent) => push_bar(text, percent),
-        None => Ok(()),
-    }
-}
-
-fn push_share(text: &mut String, percent: Option<u64>) -> Result<(), AllocError> {
-    match percent {
-        Some(percent) => write!(text, "{percent}%"),
         None => Ok(()),
     }
 }

@@ -1,7 +1,5 @@
 //! The lines of a status as rows of tables.
-use crate::columns::{
-    Column, ENDED_READS, ENTITY, FAILING_LOG, LAYOUTS, Layout, NOTE, Rows, Shade,
-};
+use crate::columns::{Column, ENDED_READS, ENTITY, FAILING_LOG, LAYOUTS, Layout, NOTE, Rows};
 use crate::ends::end_tone;
 use crate::fields::{is_set, moment_in, number_in, text_in};
 use crate::page::Tone;
@@ -72,18 +70,9 @@ pub(crate) fn push_record(
     }
 }
 
-// Adds the entity's lines, above the tables.
+// Adds the entity's line above the tables, and how many workers stopped reading, if any did.
 fn push_entity(alloc: Global, tables: &mut Tables, value: &Value<'_>) -> Result<(), AllocError> {
     push_head(alloc, tables, value, ENTITY.as_slice())?;
-    push_ended_reads(alloc, tables, value)
-}
-
-// Adds how many workers stopped reading, if any did.
-fn push_ended_reads(
-    alloc: Global,
-    tables: &mut Tables,
-    value: &Value<'_>,
-) -> Result<(), AllocError> {
     match value.get(member::COUNTERS) {
         Some(counters) if number_in(counters, member::ENDED_READS) > Some(0) => {
             push_head(alloc, tables, counters, ENDED_READS.as_slice())
@@ -139,19 +128,11 @@ fn push_row(
     look: Look,
 ) -> Result<(), AllocError> {
     for table in tables.tables.as_mut_slice() {
-        if is_same(table.layout.rows, rows) {
+        if table.layout.rows == rows {
             return push_row_to(alloc, table, value, look);
         }
     }
     Ok(())
-}
-
-fn is_same(one: Rows<'_>, other: Rows<'_>) -> bool {
-    match (one, other) {
-        (Rows::Of(one), Rows::Of(other)) => one == other,
-        (Rows::Ended, Rows::Ended) => true,
-        _ => false,
-    }
 }
 
 fn push_row_to(
@@ -161,7 +142,7 @@ fn push_row_to(
     look: Look,
 ) -> Result<(), AllocError> {
     let row = Row {
-        tone: tone_by(table.layout.shade, value),
+        tone: tone_of(table.layout.rows, value),
         last: moment_in(value, member::LAST).unwrap_or(0),
         cells: cells_of(alloc, value, table.layout.columns, look)?,
     };
@@ -171,12 +152,13 @@ fn push_row_to(
     }
 }
 
-fn tone_by(shade: Shade, value: &Value<'_>) -> Tone {
-    match shade {
-        Shade::ByEnd => end_tone(value),
-        Shade::ByNotice if text_in(value, member::NOTICE).is_some() => Tone::Bad,
-        Shade::ByHold if is_set(value, member::HELD) => Tone::Faint,
-        Shade::Plain | Shade::ByNotice | Shade::ByHold => Tone::Plain,
+// The tone of a row: by how a transaction ended, bad if there is a notice, faint if the link is held.
+fn tone_of(rows: Rows<'_>, value: &Value<'_>) -> Tone {
+    match rows {
+        Rows::Ended => end_tone(value),
+        Rows::Of(kind::TRANSACTION) if text_in(value, member::NOTICE).is_some() => Tone::Bad,
+        Rows::Of(kind::REMOTE) if is_set(value, member::HELD) => Tone::Faint,
+        Rows::Of(_) => Tone::Plain,
     }
 }
 

@@ -58,15 +58,13 @@ fn take_line(
     seen: &Seen,
     next: &mut Seen,
 ) -> Result<(), AllocError> {
-    match value_of(alloc, line, scratch)? {
-        Some(value) => {
-            if text_in(&value, member::KIND) == Some(kind::ENTITY) {
-                next.now = moment_in(&value, member::NOW);
-            }
-            push_record(alloc, tables, &value, seen, next)
-        }
-        None => Ok(()),
+    let Some(value) = value_of(alloc, line, scratch)? else {
+        return Ok(());
+    };
+    if text_in(&value, member::KIND) == Some(kind::ENTITY) {
+        next.now = moment_in(&value, member::NOW);
     }
+    push_record(alloc, tables, &value, seen, next)
 }
 
 // Lays out all tables.
@@ -90,14 +88,7 @@ fn lay_out_one(
         table.rows.sort_by_key(|row| u64::MAX - row.last)?;
         table.rows.truncate(ENDED);
     }
-    push_table(
-        alloc,
-        page,
-        table.layout.title,
-        table.layout.columns,
-        table.rows.as_slice(),
-        width,
-    )
+    push_table(alloc, page, table, width)
 }
 
 // Adds the lines above the tables, and an empty one.

@@ -1,7 +1,7 @@
 //! Lays out tables in a given width.
 use crate::columns::Column;
 use crate::page::{Page, Tone};
-use crate::rows::Row;
+use crate::rows::{Row, Table};
 use crate::shown::columns_of;
 use std::alloc::{AllocError, Global};
 
@@ -15,17 +15,16 @@ const LEAST: usize = 12;
 pub(crate) fn push_table(
     alloc: Global,
     page: &mut Page,
-    title: &str,
-    columns: &[Column],
-    rows: &[Row],
+    table: &Table,
     width: usize,
 ) -> Result<(), AllocError> {
+    let (columns, rows) = (table.layout.columns, table.rows.as_slice());
     if rows.is_empty() {
         return Ok(());
     }
     let mut widths = widths_of(alloc, columns, rows)?;
     fit(&mut widths, width);
-    page.push_line(Tone::Head, title)?;
+    page.push_line(Tone::Head, table.layout.title)?;
     push_heads(page, columns, widths.as_slice())?;
     for row in rows {
         push_row(page, columns, row, widths.as_slice())?;

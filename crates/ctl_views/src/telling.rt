@@ -3,8 +3,8 @@ use crate::ends::end_tone;
 use crate::events::{Transaction, transaction_in};
 use crate::fields::text_in;
 use crate::page::Tone;
-use crate::parts::{NO_LOOK, push_parts};
-use crate::words::{INDICATIONS, KINDS, Said, Tint};
+use crate::parts::{NO_LOOK, Part, push_parts};
+use crate::words::{event_words, indication_words};
 use json::Value;
 use station_names::{kind, member};
 use std::alloc::{AllocError, Global};
@@ -21,8 +21,8 @@ pub(crate) fn push_head(line: &mut String, value: &Value<'_>) -> Result<(), Allo
     }
 }
 
-// Adds a moment with a space between its day and its time.
-fn push_at(line: &mut String, moment: &str) -> Result<(), AllocError> {
+/// Adds a moment with a space between its day and its time.
+pub(crate) fn push_at(line: &mut String, moment: &str) -> Result<(), AllocError> {
     match moment.split_once('T') {
         Some((day, time)) => write!(line, "{day} {time}"),
         None => line.push_str(moment),
@@ -35,59 +35,58 @@ pub(crate) fn push_words(
     line: &mut String,
     value: &Value<'_>,
 ) -> Result<(), AllocError> {
-    match said_of(value) {
-        Some(said) => push_parts(alloc, line, value, said.parts, NO_LOOK),
+    match words_for(value) {
+        Some(parts) => push_parts(alloc, line, value, parts, NO_LOOK),
         None => line.push_str(name_of(value).unwrap_or("?")),
+    }
+}
+
+// The words for an event, if it is known.
+fn words_for(value: &Value<'_>) -> Option<&'static [Part]> {
+    if is_indication(value) {
+        indication_words(name_of(value)?)
+    } else {
+        event_words(name_of(value)?)
     }
 }
 
 /// The tone in which an event is shown.
 pub(crate) fn tone_of(value: &Value<'_>) -> Tone {
-    match said_of(value) {
-        Some(said) => tone_by(said.tint, value),
-        None => Tone::Plain,
-    }
-}
-
-fn tone_by(tint: Tint, value: &Value<'_>) -> Tone {
-    match tint {
-        Tint::Always(tone) => tone,
-        Tint::ByEnd => end_tone(value),
-        Tint::ByStatus if text_in(value, member::STATUS) == Some("retained") => Tone::Plain,
-        Tint::ByStatus => Tone::Bad,
-    }
-}
-
-// The entry for an event in the lists of `words`, if it is known.
-fn said_of(value: &Value<'_>) -> Option<Said> {
     if is_indication(value) {
-        said_in(INDICATIONS.as_slice(), name_of(value)?)
+        indication_tone(value)
     } else {
-        said_in(KINDS.as_slice(), name_of(value)?)
+        event_tone(value)
+    }
+}
+
+fn indication_tone(value: &Value<'_>) -> Tone {
+    match name_of(value) {
+        Some("Transaction-Finished") => end_tone(value),
+        Some("Fault" | "Abandoned") => Tone::Bad,
+        Some("File-Segment-Recv") => Tone::Faint,
+        _ => Tone::Plain,
+    }
+}
+
+fn event_tone(value: &Value<'_>) -> Tone {
+    match name_of(value) {
+        Some(kind::STORED) if text_in(value, member::STATUS) == Some("retained") => Tone::Plain,
+        Some(kind::STORED | kind::UNSENT | kind::UNPARKED | kind::REFUSED | kind::READS_ENDED) => {
+            Tone::Bad
+        }
+        _ => Tone::Plain,
     }
 }
 
 // The name of an indication, or the kind of another event.
 fn name_of<'a>(value: &Value<'a>) -> Option<&'a str> {
-    text_in(
-        value,
-        if is_indication(value) {
-            member::NAME
-        } else {
-            member::KIND
-        },
-    )
+    if is_indication(value) {
+        text_in(value, member::NAME)
+    } else {
+        text_in(value, member::KIND)
+    }
 }
 
 fn is_indication(value: &Value<'_>) -> bool {
     text_in(value, member::KIND) == Some(kind::INDICATION)
-}
-
-fn said_in(list: &[Said], name: &str) -> Option<Said> {
-    for said in list {
-        if said.name == name {
-            return Some(*said);
-        }
-    }
-    None
 }

@@ -110,11 +110,6 @@ pub const MESSAGES: &str = "messages";
 
 pub const AS: &str = "as";
 
-// names of files whose octets aren't UTF-8, in hex
-pub const FILE_HEX: &str = "file_hex";
-
-pub const TO_HEX: &str = "to_hex";
-
 // what waits, and since when
 pub const QUEUED: &str = "queued";
 
