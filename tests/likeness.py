@@ -90,7 +90,10 @@ def busy_station(one, two, port, shapes):
     clients[0].ask(f"send alice 2 2 {file}.missing gone")
     until(lambda: clients[0].ask("outbox") == [], "an empty outbox")
     clients[0].ask("hold 2")
-    for datagram in (metadata(1_001, 100, b"opened"), file_data(1_009, 0, b"parked"), b"no PDU"):
+    send_datagram(metadata(1_001, 100, b"opened"), port)
+    # two workers read, and the later transaction may not begin first
+    until(lambda: 1_001 in [line.get("seq") for line in clients[0].status()], "the reception that has the lane")
+    for datagram in (file_data(1_009, 0, b"parked"), b"no PDU"):
         send_datagram(datagram, port)
     until(lambda: {"parked", "refusal"} <= {line["kind"] for line in clients[0].status()}, "a parked datagram and a refusal")
     time.sleep(1.2)

@@ -326,6 +326,8 @@ def parked_datagrams_give_way_where_memory_runs_out():
         resource.prlimit(one.run.pid, resource.RLIMIT_AS, (limit, limit))
         target = ("127.0.0.1", one.port)
         peer.sendto(metadata(1, 100_000, b"opened"), target)
+        # two workers read, and the later transaction may not begin first
+        until(lambda: any(line["kind"] == "transaction" for line in one.client().status()), "the reception that has the lane")
         flood(peer, target, file_data(9, 0, bytes(20_000)), lambda: one.run.poll() is not None or has_dropped(one, 1_000))
         want(one.run.poll(), None)
         for seq, name in enumerate((b"beside", b"again", b"more"), 2):
