@@ -22,7 +22,7 @@ tells() {
     exit 1
 }
 
-# says LINE..: sends lines to the server's control socket, and prints the answers.
+# says LINE..: sends lines to the server's control socket, and prints the replies.
 says() {
     python3 - "$work/control" "$@" << 'CLIENT'
 import socket, sys

@@ -1,5 +1,5 @@
 #!/usr/bin/env bash
-# Shows a script of `cfdp_replay` line by line, each line with its answer. The code runs unproved.
+# Shows a script of `cfdp_replay` line by line, each line with its reply. The code runs unproved.
 # usage: examples/demo.sh SCRIPT
 set -euo pipefail
 script=$(realpath "$1")
@@ -8,7 +8,7 @@ work=$(mktemp -d)
 trap 'rm -rf "$work"' EXIT
 
 echo "The code runs as it stands, with nothing proved: about half a minute. (make build proves it.)"
-# After each line that is answered comes a mark: a datagram of one octet. Its refusal shows where the answer ends.
+# After each line that gets a reply comes a mark: a datagram of one octet. Its refusal shows where the reply ends.
 mark='refused 20 DecodeFault 1'
 mkdir "$work/cases"
 sed '/^$/b; /^#/b; /^set /b; a pdu 00' "$script" > "$work/cases/script"
@@ -24,7 +24,7 @@ exec 3< "$work/answers"
 while IFS= read -r line || [ -n "$line" ]; do
     echo "$line"
     case $line in '' | '#'* | 'set '*) continue ;; esac
-    # The first line of an answer may look like the mark; the lines after it can't.
+    # The first line of a reply may look like the mark; the lines after it can't.
     IFS= read -r answer <&3
     case $answer in 'line '*': bad line')
         echo "This line, or a setting above it, is a bad line: the run ends here."

@@ -4,8 +4,9 @@
     packet_bridge.py --station 127.0.0.1:4556 --listen 127.0.0.1:4600 --peer 192.0.2.20:1235 --packets 0.0.0.0:1234 \\
         --head 1fe7c00000000000 --strip 16 --apid 2020
 
-A datagram from the server leaves for the peer behind the octets of --head, a packet's header: its sequence count and its length are
-filled in. A packet from the peer loses the first octets that --strip says, and goes to the server. It runs until it is ended.
+A datagram from the server leaves for the peer with the octets of --head in front: a packet's header, in which the bridge fills in the
+sequence count and the length. A packet from the peer loses the first octets that --strip says, and goes to the server. The bridge runs
+until it is ended.
 """
 import argparse
 import select
@@ -35,7 +36,7 @@ def words():
     reader.add_argument("--packets", type=address, required=True, metavar="ADDR", help="where packets of the peer arrive: this program")
     reader.add_argument("--head", type=head, required=True, metavar="HEX", help="the header that each PDU gets")
     reader.add_argument("--strip", type=int, required=True, metavar="N", help="how many octets are in front of a PDU in a packet")
-    reader.add_argument("--apid", type=int, metavar="N", help="takes packets with this APID alone")
+    reader.add_argument("--apid", type=int, metavar="N", help="takes only packets with this APID")
     return reader.parse_args()
 
 

@@ -49,7 +49,7 @@ serving=$!
 started+=("$serving")
 exec 3> commands
 
-# the relay listens, and the server answers
+# the relay listens, and the server replies
 for _ in $(seq 100); do
     grep -qs ready relayed && break
     sleep 0.1

@@ -20,26 +20,26 @@
  *     }
  *
  * Handles. The caller owns the cfdp_t, which holds nothing but a pointer. It starts as CFDP_INIT, or all zeros, which
- * is a closed handle; cfdp_open opens it, and cfdp_close frees all that it holds. A closed handle answers CFDP_CLOSED
- * to every other call that gets so far (a number out of range, or want of memory, may come first). Never copy an open
+ * is a closed handle; cfdp_open opens it, and cfdp_close frees all that it holds. With a closed handle every other call
+ * returns CFDP_CLOSED; a number out of range, or a lack of memory, may be returned in its place. Never copy an open
  * handle, and never write its fields.
  *
  * Lifetimes. What an event left (PDUs, timer operations, the deposit) is kept until the next event; the bundle that was
  * taken last until the next one is taken; the file that was asked for last until the next one. Everything is copied into
  * the caller's memory. The library keeps no pointer that it was passed.
  *
- * Memory that is passed. No two pointers of one call may overlap. A null pointer answers CFDP_NULL, except beside a
- * length of 0. Define CFDP_UNCHECKED before the header is included to leave these tests out; then no pointer may be
+ * Memory that is passed. No two pointers of one call may overlap. For a null pointer a call returns CFDP_NULL, except
+ * beside a length of 0. Define CFDP_UNCHECKED before the header is included to leave these tests out; then no pointer may be
  * null, not even beside a length of 0.
  *
  * Threads. Different handles may be used by different threads at once. One handle is used by one thread at a time, and
  * may move between threads under a lock. No call may come from a signal handler, or from the forked child of a process
  * with threads.
  *
- * Memory. Blocks come from malloc, realloc and free of the program. When these fail, a call answers CFDP_NO_MEMORY, or
+ * Memory. Blocks come from malloc, realloc and free of the program. When these fail, a call returns CFDP_NO_MEMORY, or
  * CFDP_REFUSED with refusal 12, and nothing has changed.
  *
- * docs/embedding.md has two first programs, and says what is proved of each call.
+ * docs/embedding.md has two first programs, and says what is proved about each call.
  */
 #ifndef CFDP_H
 #define CFDP_H
@@ -61,9 +61,9 @@ typedef struct cfdp {
 
 #define CFDP_INIT { false, NULL }
 
-/* What a call answers. */
+/* What a call returns. */
 enum {
-    CFDP_OK = 0,                   /* the call did what it is for; of an event: the entity took it */
+    CFDP_OK = 0,                   /* the call did its work; for an event: the entity took it */
     CFDP_REFUSED = 1,              /* the entity refused the event: `refusal` says why, and nothing else changed */
     CFDP_NOTHING = 2,              /* there is no such thing: no bundle waits, or the index is too large */
     CFDP_CLOSED = -1,              /* the handle is closed */
@@ -77,7 +77,7 @@ enum {
     CFDP_NAME_TOO_LONG = -9,       /* a file name has more than 255 octets */
     CFDP_MESSAGE_TOO_LONG = -10,   /* a message has more than 255 octets */
     CFDP_TOO_MANY_MESSAGES = -11,  /* a Put has more than 4 messages */
-    CFDP_NULL = -12                /* a pointer is null (answered by this header) */
+    CFDP_NULL = -12                /* a pointer is null (returned by this header) */
 };
 
 /* The timers of a transaction. */
@@ -110,23 +110,23 @@ enum { CFDP_DISCARDED = 0, CFDP_REJECTED = 1, CFDP_RETAINED = 2, CFDP_UNREPORTED
 
 /* What an event left. */
 typedef struct cfdp_done_t {
-    uint64_t source;  /* the event's transaction: its source entity and its number; 0 and 0 where it was refused */
+    uint64_t source;  /* the event's transaction: its source entity and its number; 0 and 0 if it was refused */
     uint64_t seq;
-    size_t pdus;      /* the number of PDUs to send; a refused PDU of an old transaction may have one in answer */
+    size_t pdus;      /* the number of PDUs to send; a refused PDU of an old transaction may get one in response */
     size_t timers;    /* the number of timer operations */
-    uint32_t refusal; /* why the event was refused, 0 where it was taken; cfdp_refusal_name has the names */
-    uint32_t fault;   /* the decoding fault, where the refusal is 20 (the datagram is not a PDU) */
-    uint32_t deposit; /* 1 where a received file waits for the file store, otherwise 0 */
+    uint32_t refusal; /* why the event was refused, 0 if it was taken; cfdp_refusal_name has the names */
+    uint32_t fault;   /* the decoding fault, if the refusal is 20 (the datagram isn't a PDU) */
+    uint32_t deposit; /* 1 if a received file waits for the file store, otherwise 0 */
 } cfdp_done_t;
 
-/* An operation on a timer. A timer that expires is told by cfdp_timer, with the stamp that it was started with. */
+/* An operation on a timer. When a timer expires, call cfdp_timer with the stamp that it was started with. */
 typedef struct cfdp_timer_op_t {
     uint64_t source;
     uint64_t seq;
     uint32_t stamp;
-    uint32_t ms;   /* milliseconds until it expires; 0 where it is stopped */
+    uint32_t ms;   /* milliseconds until it expires; 0 if it is stopped */
     uint32_t kind; /* CFDP_TIMER_ACK .. */
-    uint32_t arms; /* 1: start it, or start it anew where it runs; 0: stop it */
+    uint32_t arms; /* 1: start it, anew if it runs; 0: stop it */
 } cfdp_timer_op_t;
 
 /* A received file that waits for the file store. */
@@ -180,7 +180,7 @@ int32_t cfdp_open(cfdp_t *handle, const uint8_t *text, size_t text_len, uint32_t
 int32_t cfdp_close(cfdp_t *handle);
 
 /*
- * Events. Each answers CFDP_OK or CFDP_REFUSED and fills `done`; any other answer means that there was no event, and
+ * Events. Each returns CFDP_OK or CFDP_REFUSED and fills `done`. Any other code means that there was no event, and
  * leaves `done` as it was.
  */
 
@@ -212,31 +212,31 @@ int32_t cfdp_pump(cfdp_t *handle, uint64_t source, uint64_t seq, cfdp_done_t *do
 /* A timer expired: the fields of the operation that started it. Also CFDP_BAD_NUMBER. */
 int32_t cfdp_timer(cfdp_t *handle, uint64_t source, uint64_t seq, uint32_t kind, uint32_t stamp, cfdp_done_t *done);
 
-/* The file store answers a deposit: whether it keeps the file. */
+/* The file store reports on a deposit: whether it keeps the file. */
 int32_t cfdp_stored(cfdp_t *handle, uint64_t source, uint64_t seq, uint32_t stamp, bool kept, cfdp_done_t *done);
 
 /*
- * What the last event left, by index from 0; CFDP_NOTHING where the index is too large.
+ * What the last event left, by index from 0; CFDP_NOTHING if the index is too large.
  */
 
 /* Copies a PDU. A buffer of 1,500 octets is enough for what a sender sends. Also CFDP_NO_ROOM, CFDP_NO_MEMORY. */
 int32_t cfdp_pdu(cfdp_t *handle, size_t index, uint8_t *buffer, size_t room, size_t *len);
 
-/* Gives a timer operation. They are to be carried out in order. */
+/* Returns a timer operation. Carry them out in order. */
 int32_t cfdp_timer_op(cfdp_t *handle, size_t index, cfdp_timer_op_t *op);
 
-/* Gives the deposit, if done.deposit was 1. */
+/* Returns the deposit, if done.deposit was 1. */
 int32_t cfdp_deposit(cfdp_t *handle, cfdp_deposit_t *deposit);
 
 /*
- * Gets the file of a waiting deposit, keeps it, and tells its lengths. CFDP_REFUSED where no such deposit waits, or
+ * Gets the file of a waiting deposit, keeps it, and returns its lengths. CFDP_REFUSED if no such deposit waits, or
  * memory ran out: image->refusal says which.
  */
 int32_t cfdp_image(cfdp_t *handle, uint64_t source, uint64_t seq, uint32_t stamp, cfdp_image_t *image);
 
 /*
  * Copies octets of that file from `offset` on: of its name at the sender (part 0), its name at the receiver (1), or its
- * content (2). Copies as many as there are and as the buffer holds, and says how many. CFDP_NOTHING where the offset is
+ * content (2). Copies as many as there are and as the buffer holds, and says how many. CFDP_NOTHING if the offset is
  * beyond the end.
  */
 int32_t cfdp_image_octets(cfdp_t *handle, size_t part, size_t offset, uint8_t *buffer, size_t room, size_t *len);
@@ -246,10 +246,10 @@ int32_t cfdp_image_octets(cfdp_t *handle, size_t part, size_t offset, uint8_t *b
  * (refusal 13) and may be tried again.
  */
 
-/* Takes the bundle at the front of a user's queue. CFDP_NOTHING where none waits. Also CFDP_UNKNOWN. */
+/* Takes the bundle at the front of a user's queue. CFDP_NOTHING if none waits. Also CFDP_UNKNOWN. */
 int32_t cfdp_take(cfdp_t *handle, size_t user, cfdp_bundle_t *bundle);
 
-/* Gives an indication of the bundle that was taken last. */
+/* Returns an indication of the bundle that was taken last. */
 int32_t cfdp_indication(cfdp_t *handle, size_t index, cfdp_indication_t *indication);
 
 /* Copies a text of an indication of that bundle: see `parts`. Also CFDP_NO_ROOM; 255 octets are enough. */
@@ -259,7 +259,7 @@ int32_t cfdp_octets(cfdp_t *handle, size_t index, size_t part, uint8_t *buffer, 
 int32_t cfdp_users(cfdp_t *handle, size_t *count);
 int32_t cfdp_put_lanes(cfdp_t *handle, size_t *count);
 
-/* Copies the name of an answer of the library, or of a refusal; CFDP_NOTHING for other numbers. 24 octets are enough. */
+/* Copies the name of a code of the library, or of a refusal; CFDP_NOTHING for other numbers. 24 octets are enough. */
 int32_t cfdp_error_name(int32_t code, uint8_t *buffer, size_t room, size_t *len);
 int32_t cfdp_refusal_name(uint32_t refusal, uint8_t *buffer, size_t room, size_t *len);
 
@@ -379,7 +379,7 @@ static inline int32_t cfdp_checked_refusal_name(uint32_t refusal, uint8_t *buffe
 
 #endif /* CFDP_UNCHECKED */
 
-/* Opens a handle by a configuration that is a string, and forgets where a fault is. */
+/* Opens a handle by a configuration in a string, and doesn't say where a fault is. */
 static inline int32_t cfdp_open_text(cfdp_t *handle, const char *text) {
     uint32_t fault = 0;
     uint8_t place[1];

@@ -7,7 +7,7 @@
         if done.deposit: ...                # a received file: entity.image(done.deposit), then entity.stored(..)
         for bundle in entity.bundles(0): ...
 
-The library does no input and output, starts no thread and reads no clock: the program carries datagrams and runs timers.
+The library has no input and output, starts no thread and reads no clock: the program carries datagrams and runs timers.
 Every method may be called from any thread; one call runs at a time. The library is looked for beside this file, in the
 repository's `build` folder, and where the system looks; the variable CFDP_LIBRARY names another one.
 """
@@ -135,7 +135,7 @@ def _name(function, number: int) -> str:
 
 
 class Error(Exception):
-    """A call was not carried out; `code` is the library's answer."""
+    """A call was not carried out; `code` is what the library returned."""
 
     def __init__(self, code: int, text: str | None = None):
         super().__init__(text or _name(_library.cfdp_error_name, code))
@@ -157,8 +157,8 @@ class ConfigurationFault(Error):
 class Refusal(Exception):
     """The entity refused an event, which changed nothing.
 
-    `number` and `name` say why, `fault` is the decoding fault of a datagram that is no PDU, and `pdus` has the PDU that
-    answers one of an old transaction, if there is one.
+    `number` and `name` say why, `fault` is the decoding fault of a datagram that isn't a PDU, and `pdus` has the PDU that
+    responds to one of an old transaction, if there is one.
     """
 
     def __init__(self, number: int, fault: int = 0, pdus: tuple[bytes, ...] = ()):
@@ -226,7 +226,7 @@ class Timer:
 
 @dataclass(frozen=True)
 class Deposit:
-    """A received file that waits for the file store's answer."""
+    """A received file that waits for the file store's result."""
 
     source: int
     seq: int
@@ -289,8 +289,8 @@ class Bundle:
 class Entity:
     """An entity, by its configuration: a text in TOML.
 
-    Raises ConfigurationFault where the configuration is refused, and MemoryError where memory runs out. Methods raise
-    Refusal where the entity refuses an event, and Closed after `close`.
+    Raises ConfigurationFault if the configuration is refused, and MemoryError if memory runs out. Methods raise
+    Refusal if the entity refuses an event, and Closed after `close`.
     """
 
     def __init__(self, configuration: str | bytes):
@@ -330,7 +330,7 @@ class Entity:
         return code
 
     def _copied(self, function, *before: int) -> bytes | None:
-        """The octets that a call copies, or None where there are none."""
+        """The octets that a call copies, or None if there are none."""
         length = ctypes.c_size_t()
         while True:
             code = function(self._handle, *before, self._room, len(self._room), ctypes.byref(length))
@@ -392,7 +392,7 @@ class Entity:
         return self._told(_library.cfdp_timer, timer.source, timer.seq, int(timer.kind), timer.stamp)
 
     def stored(self, deposit: Deposit, kept: bool) -> Done:
-        """The file store answers a deposit: whether it keeps the file."""
+        """The file store reports on a deposit: whether it keeps the file."""
         return self._told(_library.cfdp_stored, deposit.source, deposit.seq, deposit.stamp, kept)
 
     def image(self, deposit: Deposit) -> Image:

@@ -24,11 +24,11 @@ ctl_views web_lines web_pages web_console cfdp_session cfdp_c""".split()
 
 INTRO = """# What has to be believed
 
-`tests/trusted.py` prints this page, and the gate fails where it is stale.
+`tests/trusted.py` prints this page, and the gate fails if it is stale.
 
-A proof says that a call keeps its contract. A contract speaks in definitions, which stand in the folders `specs/` of the crates. If a
+A proof says that a call keeps its contract. A contract is written in definitions, which are in the folders `specs/` of the crates. If a
 definition says something else than it should, the proofs are about something else; so somebody has to read the definitions. They are
-below in reading order: layer by layer (`docs/crates.md`), and in a crate each behind those that it cites. The first line of each
+below in reading order: layer by layer (`docs/crates.md`), and in a crate each after those that it cites. The first line of each
 file says what it is:
 
 - **Meaning**: the contracts of public calls and the laws speak in these. All of them are listed.
@@ -36,12 +36,12 @@ file says what it is:
   {cited} The others occur in proofs and in contracts of calls that only the repository's own code makes. No promise of the README
   speaks in their terms, so a wrong one could only make a proof fail, and nobody has to believe them.
 - **Rows**: worked examples, and the values that they use. They show that a definition says what it should. No promise rests on them,
-  except where one is listed.
+  unless one is listed.
 
 Three things beside these files have to be believed: the types, their fields and constants, which are those of the code
 (`specs/declared/` is made from it; each `Lib.antt` only names the other files); the model and the invariant of a type with private
-fields, which stand at the type; and what a trait asks of its implementations, which stands at the trait. Models and traits are listed
-behind the files.
+fields, which are written at the type; and what a trait asks of its implementations, which is written at the trait. Models and traits are listed
+after the files.
 
 These are trusted as well, and the README lists them: the toolchain, with its checker, its compiler and its library; the contracts of
 the kit's ported crates; the C library and the operating system; and that a program which calls the library for C keeps what
@@ -49,12 +49,12 @@ the kit's ported crates; the C library and the operating system; and that a prog
 that no contract says are only tested or not claimed (`docs/proved.md`).
 
 Of the system's disk the crates `disk` and `whole_files` trust this (`crates/disk/README.md`): that each method of `SystemDisk` asks the
-system for what it notes, that a call which found its path taken did nothing, that a read brings what is there, and that a power cut
+system for what it notes, that a call which found its path taken did nothing, that a read returns what is there, and that a power cut
 leaves no more than `crates/disk/specs/Crash.antt` says."""
 
 READING = """## How to read a definition
 
-A definition is a function that computes, or a statement. A line of comment stands above each whose name does not say it all.
+A definition is a function that computes, or a statement. Each whose name doesn't say it all has a line of comment above it.
 `docs/glossary.md` has the words.
 
 **The table of an end** is a function of a state. `State` is a record of everything that the table asks, and `step` says how one log entry
@@ -64,9 +64,9 @@ whether the file is handed out and which timers it arms; `and_then` joins two. `
 their order come from the response, the timer operations (`effect_of`) from the state after the step. `answer_at` is refusal and answer
 together.
 
-**Worked transactions** are lemmas that the checker computes on both sides. PDUs stand in them as hex numbers, by `digits`, as they travel.
-There a refusal is no answer: indications, PDUs and the deposit are an option. Each whole transaction comes with the lemma that its log
-is legal. Rows stand in `specs/` or `proofs/` of a crate (`*Rows.antt`), or in a crate of rows."""
+**Worked transactions** are lemmas that the checker computes on both sides. PDUs are in them as hex numbers, by `digits`, as they travel.
+There a refusal isn't an answer: indications, PDUs and the deposit are an option. Each whole transaction comes with the lemma that its log
+is legal. Rows are in `specs/` or `proofs/` of a crate (`*Rows.antt`), or in a crate of rows."""
 
 # Which notion is defined where. A line is a notion, and after the colon the files of crates; a crate alone means all
 # of its files.
@@ -129,7 +129,7 @@ what an outbox and its file say together: held_outbox/Held
 how a word is written in a command; the words of commands that change something: command_words/Words Commands
 file names that a folder store takes; stores in memory and in a folder; faults: file_stores/Names MemoryStore FolderStore Faults
 where a store with folders puts a file, what it has ready, and the effect of a deposit: station_store/Paths Stations Sources
-what lies behind a lane's lock, and a step of it: shared_lanes/Held
+what a lane's lock guards, and a step of it: shared_lanes/Held
 what `Entity` may answer; what it is opened with: shared_entity/Answering Opening
 workers: faults, which answers a carrier accepts; deposits: entity_workers/Faults Carrying Depositing
 words of a line, and operands that scripts and commands share: line_words/Words Operands Places

@@ -3,8 +3,8 @@
 
 usage: examples/python/bench.py [SEED]
 
-Prints a row for each trouble: how many datagrams went, what both users were told at the end, and what the peer stored. The
-same seed prints the same table. Ends with status 1 where a file was stored that is not the one that was sent.
+Prints a row for each trouble: how many datagrams went, what both users received at the end, and what the peer stored. The
+same seed prints the same table. Ends with status 1 if a stored file isn't the one that was sent.
 """
 
 from __future__ import annotations
@@ -49,7 +49,7 @@ check_limit = 8
 
 @dataclass
 class Station:
-    """An entity with its timers, and the indications that its user was told."""
+    """An entity with its timers, and the indications that its user received."""
 
     entity: Entity
     timers: dict = field(default_factory=dict)
@@ -167,7 +167,7 @@ def all_of_it(rng, datagram):
 
 
 def ending(station: Station) -> str:
-    """What a user was told at the end."""
+    """What a user received at the end."""
     for bundle in reversed(station.told):
         for told in reversed(bundle.indications):
             if told.kind == Kind.FINISHED:

@@ -87,7 +87,7 @@ fn send_over<R: Threads>(
     Ok(u64::from(came))
 }
 
-/// Sends datagrams over loopback; answers how many arrived.
+/// Sends datagrams over loopback; returns how many arrived.
 pub(crate) fn blast<R: Threads + Net>(rt: &R, alloc: Global, load: Load) -> Result<u64, Fault> {
     let sending = UdpSocket::bind(rt, "127.0.0.1:0")?;
     let taking = UdpSocket::bind(rt, "127.0.0.1:0")?;

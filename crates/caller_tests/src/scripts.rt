@@ -1,7 +1,7 @@
 use script_replay::{ReplayFault, replay};
 use std::alloc::Global;
 
-/// What the reference entity answers to a script.
+/// What the reference entity prints for a script.
 fn answers_to(alloc: Global, script: &[u8]) -> Result<Vec<u8>, ReplayFault> {
     let mut lines = script;
     let mut answers = Vec::new(alloc);

@@ -2,7 +2,7 @@ use cfdp_types::TimerOp;
 use std::alloc::AllocError;
 use timer_list::{Armed, TimerList};
 
-/// Carries out what a step's answer says of timers at a moment, and gives the first timer that has expired at a later one.
+/// Carries out what a step's answer says about timers at a moment, and returns the first timer that has expired at a later one.
 fn first_due(
     timers: &mut TimerList,
     ops: &[TimerOp],

@@ -9,7 +9,7 @@ use std::io::{BufRead, BufReader, Read, Write};
 use std::sync::Wait;
 use std::time::Clock;
 
-/// Gives the command for each transaction that is chosen, and returns the exit status: 0 if each was taken.
+/// Gives the command for each chosen transaction, and returns the exit status: 0 if each was taken.
 pub(crate) fn act<R, W, E>(
     rt: &R,
     alloc: Global,

@@ -90,7 +90,7 @@ pub(crate) fn may_return(fault: StationFault) -> bool {
     )
 }
 
-/// Another connection, as soon as there is one, after a fault that is reported with the socket's path.
+/// Another connection, as soon as there is one, after a fault reported with the socket's path.
 pub(crate) fn line_again<R, W, E>(
     rt: &R,
     alloc: Global,

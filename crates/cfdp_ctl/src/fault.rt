@@ -24,7 +24,7 @@ pub(crate) enum CtlFault {
 }
 
 impl CtlFault {
-    /// The fault's text; nothing where nobody would read it.
+    /// The fault's text; nothing if nobody would read it.
     pub(crate) fn text(self) -> Option<&'static str> {
         match self {
             CtlFault::Station(fault) => Some(fault.text()),

@@ -8,7 +8,7 @@ use std::io::Write;
 use std::sync::Wait;
 use std::time::Clock;
 
-/// What the server says of itself: nothing if it knows no status.
+/// What the server says about itself: nothing if it doesn't know `status`.
 #[derive(Drop)]
 pub(crate) struct Known {
     users: Vec<String>,

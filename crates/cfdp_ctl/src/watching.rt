@@ -64,7 +64,7 @@ struct Watching<'a> {
     told_of_odd: bool,
 }
 
-/// Sends each file that comes into the folder, and moves it once it has ended; waits for the server where it goes away. With
+/// Sends each file that comes into the folder, and moves it once it has ended; waits for the server if it goes away. With
 /// `once`, returns the exit status once no file is left.
 pub(crate) fn watch<R, W, E>(
     rt: &R,

@@ -1,4 +1,4 @@
-//! Runs a script of PDUs, requests, timers, store answers and takes through one protocol entity, and prints its
+//! Runs a script of PDUs, requests, timers, store results and takes through one protocol entity, and prints its
 //! answers.
 #![tactic(auto)]
 

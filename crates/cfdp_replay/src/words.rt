@@ -15,11 +15,11 @@ pub(crate) struct ReplayWords<'a> {
     pub script: Option<&'a str>,
     /// Whether comments say in words what lines and answers say.
     pub explains: bool,
-    /// The datagram in hex that is to be explained; then nothing is played.
+    /// The datagram to be explained, in hex; then nothing is played.
     pub datagram: Option<&'a str>,
 }
 
-const HELP: &str = "Plays a script of events through one CFDP entity, and prints its answers.
+const HELP: &str = "Plays a script of events through one CFDP entity, and prints its replies.
 
 Usage: cfdp_replay [--config FILE] [--explain] [SCRIPT]
        cfdp_replay --explain-pdu HEX
@@ -27,7 +27,7 @@ Usage: cfdp_replay [--config FILE] [--explain] [SCRIPT]
   --config FILE      the configuration that the script begins with, in TOML (default: the
                      reference configuration, entity 2 with the users alice and bob)
   SCRIPT             the script's file (default: the standard input)
-  --explain          prints below each answer what it says in words, in lines that begin with `# `
+  --explain          prints below each reply what it says in words, in lines that begin with `# `
   --explain-pdu HEX  plays nothing: prints in words what one datagram says
   --help             prints this, and ends
   --version          prints the version, and ends

@@ -1,4 +1,4 @@
-//! Puts that nobody answers.
+//! Puts to which nobody responds.
 use crate::lines::words;
 use cfdp_send::{Outputs, put_one};
 use std::alloc::Global;

@@ -69,7 +69,7 @@ struct Putter<'a, N: Names, R: Files + AllocGlobal + Copy + Drop, W: Drop, P: Dr
     outputs: Outputs<W, P>,
 }
 
-/// Puts a file with an open entity and its socket, and runs until the transaction has ended; answers the exit status.
+/// Puts a file with an open entity and its socket, and runs until the transaction has ended; returns the exit status.
 pub(crate) fn put_over<
     N: Names + Send + Sync,
     R: Threads + Wait + Clock + Files + AllocGlobal + Copy + Drop + Send + Sync,

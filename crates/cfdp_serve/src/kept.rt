@@ -14,7 +14,7 @@ use std::net::Net;
 use std::rt::Files;
 use std::time::Clock;
 
-/// The numbers of a server and its outbox, with the file of each where there is one.
+/// The numbers of a server and its outbox, with the file of each if there is one.
 #[derive(Drop)]
 pub(crate) struct Kept<R: Files + AllocGlobal + Drop> {
     pub(crate) numbers: Option<HeldNumbers<R>>,
@@ -24,7 +24,7 @@ pub(crate) struct Kept<R: Files + AllocGlobal + Drop> {
 
 impl<R: Net + Clock + Files + AllocGlobal + Copy + Drop> Kept<R> {
     /// Opens the files that the words name. What waited in the outbox when the last run stopped, or was under way from there,
-    /// waits again. Where the outbox can't be opened, the file of numbers is released.
+    /// waits again. If the outbox can't be opened, the file of numbers is released.
     pub(crate) fn open(
         rt: &R,
         alloc: Global,
@@ -59,7 +59,7 @@ pub(crate) struct OutboxHold {
 }
 
 impl OutboxHold {
-    /// Takes hold of the file at a path. Fails where another program has it.
+    /// Takes hold of the file at a path. Fails if another program has it.
     pub(crate) fn open<R: Net + Files>(
         rt: &R,
         alloc: Global,

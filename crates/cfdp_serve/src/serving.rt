@@ -37,9 +37,9 @@ pub struct Streams<I: Drop, W: Drop> {
 
 /// Runs the server by its command line, whose first word is the program's own name, until `quit` or the end of the commands
 /// that `streams.reader` gives. The replies go to `streams.writer`, and why it ended too early to `errors`. The result is the exit
-/// status: 0, or 1 where it ended too early. Where the output takes no more, it ends once the reader has given one more line or its
-/// end. With a control socket clients command it, and neither of the streams is used. Files that are to be sent are read by `files`,
-/// beside the main thread. Where a person reads `errors`, or `--explain` is given, a second line there explains the fault, as it does
+/// status: 0, or 1 if it ended too early. If the output can't be written, it ends once the reader has given one more line or its
+/// end. With a control socket clients command it, and neither of the streams is used. Files to be sent are read by `files`,
+/// beside the main thread. If a person reads `errors`, or `--explain` is given, a second line there explains the fault, as it does
 /// after a check of the configuration.
 pub fn serve<
     R: Threads + Wait + Net + Clock + Files + AllocGlobal + Copy + Drop + Send + Sync,

@@ -1,4 +1,4 @@
-//! What the words of the command line set: limits of links, links that are held from the start, and the log.
+//! What the words of the command line set: limits of links, links held from the start, and the log.
 use program_desk::{moment, wall_moment};
 use program_seats::Seats;
 use program_station::Station;
@@ -59,7 +59,7 @@ fn log_at<R: Files>(
     Ok(log)
 }
 
-/// The events of a server, where clients or a log may read them.
+/// The events of a server, if clients or a log may read them.
 pub(crate) fn events_of<'x, R: Wait + Files>(
     alloc: Global,
     words: &ServerWords<'_>,

@@ -36,7 +36,7 @@ const STEPS: usize = 1_024;
 
 const LINES: usize = PLACES;
 
-/// What a server starts from: its runtime, who reads files that are to be sent, and the words of its command line.
+/// What a server starts from: its runtime, who reads files to be sent, and the words of its command line.
 #[derive(Drop)]
 pub(crate) struct Starting<'x, R, F> {
     pub(crate) rt: &'x R,
@@ -45,7 +45,7 @@ pub(crate) struct Starting<'x, R, F> {
     pub(crate) words: &'x ServerWords<'x>,
 }
 
-/// The sockets of a server: for datagrams, and for clients where those command it.
+/// The sockets of a server: for datagrams, and for clients if those command it.
 #[derive(Clone, Copy)]
 pub(crate) struct Sockets<'x> {
     pub(crate) datagrams: &'x UdpSocket,

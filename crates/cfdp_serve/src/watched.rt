@@ -7,7 +7,7 @@ use std::alloc::{AllocError, Global};
 use std::net::Net;
 use std::rt::Files;
 
-/// Opens the status socket, where the words ask for one.
+/// Opens the status socket, if the words ask for one.
 pub(crate) fn open_watched<R: Net + Files, F>(
     starting: &Starting<'_, R, F>,
 ) -> Result<Option<ControlSocket>, ProgramFault> {
@@ -21,7 +21,7 @@ pub(crate) fn open_watched<R: Net + Files, F>(
     }
 }
 
-/// Adds a line that says which socket of a server can't be opened, and why, where it has a status socket at this path.
+/// Adds a line that says which socket of a server can't be opened, and why, if it has a status socket at this path.
 pub(crate) fn push_socket_cause<R: Net + Files>(
     rt: &R,
     alloc: Global,

@@ -11,7 +11,7 @@ use entity_config::Config;
 use server_lines::{Command, PutCommand, SendCommand};
 use std::alloc::{AllocError, Global};
 
-/// The words of a command, without a line feed: printable ASCII characters only. Empty where the command changes nothing.
+/// The words of a command, without a line feed: printable ASCII characters only. Empty if the command changes nothing.
 pub fn command_words(
     alloc: Global,
     config: &Config,

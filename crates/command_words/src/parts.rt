@@ -63,7 +63,7 @@ pub(crate) fn urgent_word(is_urgent: bool) -> &'static [u8]
     if is_urgent { b" urgent" } else { b"" }
 }
 
-/// Adds the source file name that the receiver learns, where that is another than the path.
+/// Adds the source file name that the receiver learns, if that is another than the path.
 pub(crate) fn push_aliased(words: &mut Vec<u8>, name: &Option<Octets>) -> Result<(), AllocError>
     ensures { OnOk result (words.new.items ≡ words.old.items ++ aliased name.now) }
 {

@@ -54,7 +54,7 @@ impl HotFiles {
         }
     }
 
-    /// The name of the file that is sent next, and how it was seen; `None` if none is ready.
+    /// The name of the file sent next, and how it was seen; `None` if none is ready.
     pub fn next(&self, now: u64) -> Result<Option<(String, Sight)>, AllocError> {
         let mut watched = Vec::new(self.alloc);
         for file in self.files.values() {

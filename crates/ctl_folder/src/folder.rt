@@ -1,4 +1,4 @@
-//! The folder that is watched, and its folders for files that have ended.
+//! The watched folder, and its folders for files that have ended.
 use ctl_watch::{Sight, is_left_alone, is_same, kept_name, why_name};
 use std::alloc::{AllocError, Global};
 use std::fs::{Metadata, OpenOptions};

@@ -37,7 +37,7 @@ pub struct Watched {
     pub standing: Standing,
 }
 
-/// A file that is seen at a moment with this size and time, by what was known of it before.
+/// A file as it is seen at a moment with this size and time, by what was known of it before.
 pub fn watched_now(before: Option<Watched>, size: u64, modified: u64, now: u64) -> Watched
     ensures { result ≡ watched_now before size modified now }
 {
@@ -96,7 +96,7 @@ pub fn is_same(sight: Sight, size: u64, modified: u64) -> bool
     sight.size == size && sight.modified == modified
 }
 
-/// The place of the file that is sent next, in the order of the list; `None` if none is ready, or if as many files as may be
+/// The place of the file sent next, in the order of the list; `None` if none is ready, or if as many files as may be
 /// are under way.
 pub fn next_to_send(files: &[Watched], now: u64) -> Option<usize>
     ensures { result ≡ next_to_send now files.now }

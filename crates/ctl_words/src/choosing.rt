@@ -31,7 +31,7 @@ pub(crate) fn history_task<'a>(
     }))
 }
 
-/// The command for transactions that the words give; `None` where the server reads them as they are.
+/// The command for transactions that the words give; `None` if the server reads them as they are.
 pub(crate) fn act_asked<'a>(
     alloc: Global,
     matches: &ArgMatches<'a>,

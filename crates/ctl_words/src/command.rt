@@ -8,7 +8,7 @@ fn valued<'a>(alloc: Global, name: &'static str) -> Arg<'a> {
     Arg::new(alloc, name).long(name).action(ArgAction::Set)
 }
 
-/// An option without a value, which is present or absent.
+/// An option without a value, present or absent.
 fn flag<'a>(alloc: Global, name: &'static str) -> Arg<'a> {
     Arg::new(alloc, name).long(name).action(ArgAction::SetTrue)
 }

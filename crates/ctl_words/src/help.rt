@@ -4,7 +4,7 @@ const HELP: &str = "Commands a running cfdp_server over its control socket.
 
 Usage: cfdp_ctl --control PATH [OPTIONS] [COMMAND [WORD..]]
 
-Without a command it reads commands from standard input, one a line, and prints each reply.
+Without a command it reads commands from standard input, one on each line, and prints each reply.
 
   --control PATH             the server's control socket (default: the variable CFDP_CONTROL)
   --wait-for-server SECONDS  how long a server may take to reply, 0 to 86400 (default: 5)
@@ -18,8 +18,8 @@ Commands:
                              prints users, transactions, the outbox, remotes and refusals as tables
       --json                 prints the JSON lines as received
       --watch                refreshes each second
-      --failed               of all tables only transactions that failed
-      --remote R             without transactions, files and links of other entities
+      --failed               only the transactions that failed
+      --remote R             leaves out transactions, files and links of other entities
   follow [--json] [--user U] [--transaction SOURCE.SEQ] [--last N] [--level L] [--follow-again]
                              prints a line for each event as it happens
       --json                 prints the JSON events as received
@@ -30,8 +30,8 @@ Commands:
                              leaves out the pieces of files; with --json all)
       --follow-again         if the server goes away, waits for the next one and follows that
   send --to REMOTE [--user U] [--class N] [--closure] [--urgent] [--into FOLDER] [--wait] FILE..
-                             puts files in the outbox, each under its own name; the receiver learns
-                             no folder of this machine
+                             puts files in the outbox, each under its own name; the receiver doesn't
+                             learn any folder of this machine
       --to REMOTE            the receiving entity
       --user U               the user whose files they are (default: the server's only user)
       --class N              1 (unacknowledged) or 2 (acknowledged); default: 2
@@ -56,16 +56,16 @@ Commands:
                              N octets a second at most; off in place of N: without a limit
   reopen                     has the server open its log anew
   cancel, suspend, resume, abandon SOURCE.SEQ
-                             does this to a transaction that is under way
+                             does this to a transaction under way
   cancel, suspend, resume, abandon [--all] [--remote R] [--user U] [--yes]
-                             does this to each transaction that is under way; on a terminal it asks first
+                             does this to each transaction under way; on a terminal it asks first
       --all                  all of them
       --remote R             those with this entity at the other end
       --user U               those of this user
       --yes                  doesn't ask
   history --log FILE.. [--since T] [--remote R] [--failed] [--json]
                              prints a line for each transaction that ended, from files that the server
-                             wrote by --log, and their sums; it needs no server
+                             wrote by --log, and their sums; needs no server
       --since T              those that ended since a moment in UTC: 2026-11-26, or 2026-11-26T12:00:00Z
       --remote R             those with this entity at the other end
       --failed               those that failed

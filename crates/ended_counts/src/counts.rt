@@ -38,7 +38,7 @@ pub enum Class {
 }
 
 impl Class {
-    /// Its number, or 0 where it isn't known.
+    /// Its number, or 0 if it isn't known.
     pub fn number(self) -> u8
         ensures { result ≡ number_of self }
     {

@@ -6,7 +6,7 @@ use crate::level::Level;
 use cfdp_types::{Condition, Delivery, FileStatus};
 use indications::Indication;
 
-/// What an event tells.
+/// What an event says.
 #[derive(Clone, Copy, Debug)]
 pub enum EventKind<'a> {
     /// The server has started, or ends.

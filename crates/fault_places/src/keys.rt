@@ -141,7 +141,7 @@ fn may_have(outer: Key, key: Key, handler: Handler) -> bool {
     false
 }
 
-/// Adds the handlers that are allowed at a key such as `send.nak_limit`; nothing where no such key is known.
+/// Adds the handlers allowed at a key such as `send.nak_limit`; nothing if no such key is known.
 pub fn push_handlers(text: &mut String, path: &str) -> Result<(), AllocError> {
     match keys_of(path) {
         Some((table, key)) => push_allowed(text, table, key),

@@ -4,7 +4,7 @@ ghost use Rattle.fault_places.specs.Scans.{line_of};
 
 use crate::scan::{START, Sought};
 
-/// The line of a key, counted from 1. Where the key isn't in the text, it is that of the table where it should be; where that
+/// The line of a key, counted from 1. If the key isn't in the text, it is that of the table where it should be; if that
 /// isn't there either, `None`.
 pub fn line_of(text: &str, sought: &Sought<'_>) -> Option<u64>
     ensures { result ≡ line_of sought.now text.now }

@@ -8,11 +8,11 @@ pub struct Sought<'a> {
     pub path: &'a [u8],
     /// How many octets the first name has.
     pub head: usize,
-    /// Which of the tables of that name it is, counted from 1; 0 where there is only one.
+    /// Which of the tables of that name it is, counted from 1; 0 if there is only one.
     pub table: u64,
 }
 
-/// How far a path of the text agrees with the one that is looked for.
+/// How far a path of the text agrees with the one looked for.
 #[derive(Clone, Copy, Debug, PartialEq, Eq)]
 pub struct Agreed {
     pub octets: usize,
@@ -41,10 +41,10 @@ pub struct Scan {
     /// How many tables of the first name have begun.
     pub tables: u64,
     pub part: Part,
-    /// The path of the last header, and the one that is being read.
+    /// The path of the last header, and the one being read.
     pub header: Agreed,
     pub here: Agreed,
-    /// The line whose path agrees the most, counted from 1, and how far it does; 0 where there is none.
+    /// The line whose path agrees the most, counted from 1, and how far it does; 0 if there is none.
     pub line: u64,
     pub most: usize,
 }

@@ -25,7 +25,7 @@ pub enum Spot {
     Remote(usize),
 }
 
-/// The table at which the reading of a configuration stops; `None` where it doesn't stop.
+/// The table at which the reading of a configuration stops; `None` if it doesn't stop.
 pub fn spot_in(alloc: Global, top: &Table) -> Result<Option<Spot>, AllocError>
     ensures { IfOk result (λ spot. spot ≡ spot_in (table_view top.now)) }
 {

@@ -94,7 +94,7 @@ impl<D: Disk + Drop> HeldOutbox<D> {
         self.stored.next()
     }
 
-    /// Puts a user's file in the outbox and in its file, by the words of its command. Where the disk doesn't take it, it is in
+    /// Puts a user's file in the outbox and in its file, by the words of its command. If the disk doesn't take it, it is in
     /// neither.
     pub fn queue(
         &mut self,
@@ -124,7 +124,7 @@ impl<D: Disk + Drop> HeldOutbox<D> {
         }
     }
 
-    /// Takes the file with a number out of the outbox, once its file says so; `None` where it isn't in the outbox.
+    /// Takes the file with a number out of the outbox, once its file says so; `None` if it isn't in the outbox.
     pub fn drop_file(
         &mut self,
         outgoing: &mut Outgoing,

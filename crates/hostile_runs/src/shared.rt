@@ -176,7 +176,7 @@ pub(crate) fn code_of(answer: &Answered) -> u64 {
 // The number of the refusal that memory ran out.
 const NO_MEMORY: u64 = 12;
 
-/// Notes an answer that is a number; answers whether there was memory.
+/// Notes an answer that is a number; returns whether there was memory.
 pub(crate) fn note_code(
     transcript: &mut Transcript,
     title: &str,

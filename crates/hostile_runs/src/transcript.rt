@@ -41,7 +41,7 @@ impl Transcript {
         writeln!(self.text, "{number}")
     }
 
-    /// Notes whether a call had the memory that it needs; answers the same.
+    /// Notes whether a call had the memory that it needs; returns the same.
     pub(crate) fn note_made(&mut self, title: &str, made: bool) -> Result<bool, AllocError> {
         self.note(title, if made { "ok" } else { "no memory" })?;
         Ok(made)

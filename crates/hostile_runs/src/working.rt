@@ -99,7 +99,7 @@ fn filled<R: Wait>(rt: &R, alloc: Global) -> Result<IntakeEnd, AllocError> {
     Ok(end)
 }
 
-/// Has a worker bring the datagram to its lane; answers whether there was memory. A thread that can't be started because
+/// Has a worker bring the datagram to its lane; returns whether there was memory. A thread that can't be started because
 /// memory ran out is reported as such.
 pub(crate) fn carry<N: Names + Send + Sync, R: Threads + Wait + Copy + Send + Sync>(
     rt: &R,

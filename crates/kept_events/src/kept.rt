@@ -52,7 +52,7 @@ impl KeptEvents {
         Ok(())
     }
 
-    /// Adds the last events of a level or above, at most so many, each after a word. Where memory runs out, a part may
+    /// Adds the last events of a level or above, at most so many, each after a word. If memory runs out, a part may
     /// stand there.
     pub fn push_last(
         &self,

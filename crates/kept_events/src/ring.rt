@@ -90,7 +90,7 @@ impl Ring {
             .count()
     }
 
-    /// Adds the last lines of a level or above, at most so many, each after a word. Where memory runs out, a part may
+    /// Adds the last lines of a level or above, at most so many, each after a word. If memory runs out, a part may
     /// stand there.
     pub fn push_last(
         &self,

@@ -11,7 +11,7 @@ use std::alloc::{AllocError, Global};
 use std::marker::Model;
 use timer_list::{Armed, TimerList};
 
-/// The work that a program has to do without an event from outside: timers that expire, and files that are being sent; also
+/// The work that a program has to do without an event from outside: timers that expire, and files being sent; also
 /// the timers that rest because the link to their remote entity is held. Contracts see the three lists.
 #[derive(Drop)]
 pub struct Agenda {

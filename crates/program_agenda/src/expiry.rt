@@ -28,7 +28,7 @@ pub enum Expiry {
     RunsUntil(u64),
 }
 
-/// What becomes of a timer that has expired at a moment, by the link of its transaction, where it has one.
+/// What becomes of a timer that has expired at a moment, by the link of its transaction, if it has one.
 pub fn expiry_of(timer: Armed, link: Option<TimedLink>, now: u64) -> Expiry
     ensures { result ≡ expiry_of timer link now }
 {

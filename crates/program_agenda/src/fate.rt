@@ -34,7 +34,7 @@ pub fn fate_of_retry(obstacle: Obstacle) -> Fate
     }
 }
 
-/// What becomes of a file that is being sent, when the entity refuses to send its next segments.
+/// What becomes of a file being sent, when the entity refuses to send its next segments.
 pub fn fate_of_pump(obstacle: Obstacle) -> Fate
     ensures { result ≡ fate_of_pump obstacle }
 {

@@ -32,7 +32,7 @@ impl Pace {
     }
 
     /// The pace with another limit, from this moment on, in milliseconds. What left before holds back others for a second at
-    /// most, and not at all where nothing limits any more.
+    /// most, and not at all if nothing limits any more.
     pub fn limited(self, limit: Option<u64>, now: u64) -> Pace
         ensures { result ≡ limited limit now self }
     {

@@ -6,7 +6,7 @@ use cfdp_types::TxnKey;
 use std::alloc::{AllocError, Global};
 use std::marker::Model;
 
-/// The files that are being sent, which take turns. Contracts see the list of them, in the order of their turns.
+/// The files being sent, which take turns. Contracts see the list of them, in the order of their turns.
 #[derive(Drop)]
 pub struct Rotation {
     sendings: Vec<Sending>,

@@ -1,6 +1,6 @@
 use cfdp_types::TxnKey;
 
-/// A file that is being sent.
+/// A file being sent.
 #[derive(Clone, Copy, Debug, PartialEq, Eq)]
 pub struct Sending {
     /// The transaction that sends it.

@@ -8,7 +8,7 @@ use std::marker::Model;
 /// How many milliseconds after a file couldn't be stored one is tried again.
 const PACE_MS: u64 = 1_000;
 
-/// Received files that are to be stored: those that weren't tried yet, in their order, and those that are tried again, which
+/// Received files to be stored: those that weren't tried yet, in their order, and those that are tried again, which
 /// all share one pace.
 #[derive(Drop)]
 pub struct StoreQueue<D: Drop> {
@@ -44,7 +44,7 @@ impl<D: Drop> StoreQueue<D> {
         &self.waiting
     }
 
-    /// Takes out the file that is stored next at a moment, if there is one.
+    /// Takes out the file stored next at a moment, if there is one.
     pub fn next(&mut self, now: u64) -> Option<D>
         ensures file { result ≡ next_store now self.old }
         ensures left { self.new ≡ without_store now self.old }
@@ -87,7 +87,7 @@ impl<D: Drop> StoreQueue<D> {
         }
     }
 
-    /// From when on a file is next: 0 for at once, or the greatest moment of 64 bits where none is to be stored.
+    /// From when on a file is next: 0 for at once, or the greatest moment of 64 bits if none is to be stored.
     pub fn soonest(&self) -> u64
         ensures { result ≡ soonest_store self.now }
     {

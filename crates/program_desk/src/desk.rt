@@ -64,7 +64,7 @@ impl Desk {
         self.step_room
     }
 
-    /// Leaves a parsed line, with the client that awaits its answer, if it came from one; returns whether more lines
+    /// Leaves a parsed line, with the client that awaits its reply, if it came from one; returns whether more lines
     /// are wanted.
     pub fn leave_line<R: Wait>(&self, rt: &R, said: Said, asker: Option<Asker>) -> bool {
         let mut trays = self.trays.lock(rt);

@@ -8,7 +8,7 @@ use std::str;
 use std::sync::Wait;
 use std::time::Clock;
 
-/// A file that is being read.
+/// A file being read.
 #[derive(Debug, Drop)]
 pub struct Reading {
     /// Its path.
@@ -71,7 +71,7 @@ impl Desk {
         }
     }
 
-    /// The files that are being read.
+    /// The files being read.
     pub fn readings<R: Wait>(&self, rt: &R, alloc: Global) -> Result<Vec<Reading>, AllocError> {
         let mut copies = Vec::new(alloc);
         let trays = self.trays.lock(rt);

@@ -12,7 +12,7 @@ use std::collections::VecDeque;
 #[derive(Drop)]
 pub struct AskedLine {
     pub said: Said,
-    /// The client that awaits the answer, if the line came from one.
+    /// The client that awaits the reply, if the line came from one.
     pub asker: Option<Asker>,
 }
 
@@ -50,10 +50,10 @@ pub(crate) struct Trays {
     pub(crate) has_urgent_step: bool,
     /// Whether the main thread was called since it took steps.
     pub(crate) is_called: bool,
-    /// The files that are being read, and how many readings there were before.
+    /// The files being read, and how many readings there were before.
     pub(crate) readings: Vec<Reading>,
     pub(crate) next_reading: u64,
-    /// The path of the file that is wanted.
+    /// The path of the wanted file.
     pub(crate) wanted: Option<Octets>,
     /// The file that was wanted, or the fault if it can't be read.
     pub(crate) file: Option<Result<Octets, ProgramFault>>,

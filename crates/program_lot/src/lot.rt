@@ -9,7 +9,7 @@ use std::alloc::{AllocError, Global};
 use std::sync::atomic::{AtomicBool, Ordering};
 use std::sync::{Mutex, Wait};
 
-/// After how many milliseconds a datagram that was refused again is tried again, where nothing was heard of its lane.
+/// After how many milliseconds a datagram that was refused again is tried again, if nothing was heard of its lane.
 const RETRY_MS: u64 = 5;
 
 // When a lane's first datagram is tried next, and how many of the lane's datagrams were dropped.
@@ -24,7 +24,7 @@ struct Turn {
 struct Lanes {
     parking: Parking,
     turns: Vec<Turn>,
-    /// The lane that is looked at first.
+    /// The lane looked at first.
     first: usize,
 }
 
@@ -99,7 +99,7 @@ impl Lot {
         }
     }
 
-    /// Parks a datagram that came at `since`, in milliseconds since 1970; `now` is the moment by the runtime's clock. Where
+    /// Parks a datagram that came at `since`, in milliseconds since 1970; `now` is the moment by the runtime's clock. If
     /// there is no room or memory, it or others are dropped: without memory first the later half of what each lane has.
     pub fn park<R: Wait>(
         &self,

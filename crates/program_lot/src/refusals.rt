@@ -4,7 +4,7 @@ ghost use Rattle.program_lot.specs.Waits.{lacks_memory, may_wait};
 use entity_parts::EntityRefusal;
 use txn_events::Refusal;
 
-/// Whether a datagram that is refused like this can be taken later: its lane runs another transaction, or its user's queue is
+/// Whether a datagram refused like this can be taken later: its lane runs another transaction, or its user's queue is
 /// full and the station itself takes from it.
 pub fn may_wait(takes: bool, refusal: &EntityRefusal) -> bool
     ensures { result ≡ may_wait takes refusal.now }

@@ -11,7 +11,7 @@ use std::rt::Files;
 // The most octets that a file of numbers has: a number and a line feed.
 const NUMBER_OCTETS: u64 = 64;
 
-/// Adds a line that says why the file at a path gives no numbers. To find that out, it is read again, and changed in nothing.
+/// Adds a line that says why the file at a path provides no numbers. To find that out, the file is read again, but not changed.
 pub fn push_numbers_reason<R: Files + Net>(
     rt: &R,
     alloc: Global,

@@ -14,9 +14,9 @@ pub const MOST_FILES: usize = 1_024;
 pub struct OutboxFile {
     pub class: Class,
     pub destination: EntityId,
-    /// The path of the file, and its source file name where it has no other.
+    /// The path of the file, and its source file name if it has no other.
     pub source: Octets,
-    /// Its source file name, where that is another than the path.
+    /// Its source file name, if that is another than the path.
     pub source_name: Option<Octets>,
     /// Its destination file name.
     pub destination_name: Octets,

@@ -9,13 +9,13 @@ use crate::outbox::{
 use std::alloc::{AllocError, Global};
 use std::marker::Model;
 
-/// After how many milliseconds the outbox is looked at again where no file's turn came.
+/// After how many milliseconds the outbox is looked at again if no file's turn came.
 const LANE_REST_MS: u64 = 10;
 
 /// After how many milliseconds files that came back are tried again.
 const FILE_REST_MS: u64 = 1_000;
 
-/// The outbox with its files on their way: the one that is being read, if there is one, and those that were read and couldn't
+/// The outbox with its files on their way: the one being read, if there is one, and those that were read and couldn't
 /// be put yet. No more than `MOST_FILES` are in it. Moments are milliseconds of the caller's clock.
 #[derive(Drop)]
 pub struct Outgoing {
@@ -132,7 +132,7 @@ impl Outgoing {
         self.outbox_due = self.outbox_due.min(now);
     }
 
-    /// The file that is being read, unless it was withdrawn meanwhile.
+    /// The file being read, unless it was withdrawn meanwhile.
     pub fn reading(&self) -> Option<&Waiting>
         ensures { option_copied result ≡ self.now.reading }
     {
@@ -211,7 +211,7 @@ impl Outgoing {
 
     /// Has the file read whose turn it is, unless one is being read: one that waits, or else the first one that came back, from
     /// the moment on at which those are tried; each of a user with an idle lane whose files to its entity aren't stopped. Returns
-    /// whether there is one. Where there is none, files are tried again ten milliseconds later.
+    /// whether there is one. If there is none, files are tried again ten milliseconds later.
     pub fn begin_reading(&mut self, now: u64, idle: &[bool], stops: &[Stop]) -> bool
         ensures began { result ≡ is_some (next_file now idle.now stops.now self.old) }
         ensures after { self.new ≡ begun now idle.now stops.now self.old }

@@ -1,4 +1,4 @@
-//! Links that are open for a time.
+//! Links open for a time.
 ghost use Rattle.std.specs.Prelude.{◌≡◌, ◌≤◌, ◌<◌, [], IfSome, OnErr, OnOk, length, position, vec_capacity, vec_len};
 ghost use Rattle.std.specs.List.{filter, fold};
 ghost use Rattle.program_outbox.specs.Outboxes.{at_place, without_place};
@@ -8,14 +8,14 @@ use cfdp_types::EntityId;
 use std::alloc::{AllocError, Global};
 use std::marker::Model;
 
-/// A link that is open until a moment, in milliseconds of the caller's clock.
+/// A link open until a moment, in milliseconds of the caller's clock.
 #[derive(Clone, Copy, Debug, PartialEq, Eq)]
 pub struct Window {
     pub remote: EntityId,
     pub until: u64,
 }
 
-/// The links that are open for a time, and are held when it is over. Contracts see the list of them.
+/// The links open for a time; they are held when it is over. Contracts see the list of them.
 #[derive(Drop)]
 pub struct Windows {
     windows: Vec<Window>,
@@ -61,7 +61,7 @@ impl Windows {
         keep_others(&mut self.windows, remote.0);
     }
 
-    /// Until when the link to a remote entity is open, where that is for a time.
+    /// Until when the link to a remote entity is open, if that is for a time.
     pub fn until(&self, remote: EntityId) -> Option<u64>
         ensures { result ≡ until_at (position (is_of remote.0) self.now) self.now }
     {

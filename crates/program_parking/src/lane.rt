@@ -166,7 +166,7 @@ impl LaneParking {
             .count
     }
 
-    /// Since when the oldest datagram waits, in milliseconds since 1970, or the greatest number where none does.
+    /// Since when the oldest datagram waits, in milliseconds since 1970, or the greatest number if none does.
     pub fn oldest(&self) -> u64
         ensures { result ≡ oldest self.now.waiting }
     {

@@ -6,7 +6,7 @@ use cfdp_types::Octets;
 /// How many octets a datagram takes up in the room beside its own.
 const OVERHEAD_OCTETS: u64 = 64;
 
-/// A datagram that is parked.
+/// A parked datagram.
 #[derive(Debug, Drop)]
 pub struct Parked {
     /// The number of its transaction.

@@ -68,7 +68,7 @@ impl Parking {
 
 impl Parking {
     /// Parks a datagram of a transaction, by its number, which came at `since`, in milliseconds since 1970. Nothing is parked
-    /// where a datagram with a greater number was handed in for good. Where there is no room, the last ones of the lane's
+    /// if a datagram with a greater number was handed in for good. If there is no room, the last ones of the lane's
     /// highest number go.
     pub fn park(
         &mut self,

@@ -21,10 +21,10 @@ pub struct Facts<'a> {
     pub sends: bool,
     /// The entity at the other end.
     pub peer: EntityId,
-    /// When the first and the last indication came, where that was noted.
+    /// When the first and the last indication came, if that was noted.
     pub begun: Option<Moment>,
     pub last: Option<Moment>,
-    /// The bundle of the indication that ended the transaction, with that one alone; none where it hasn't ended.
+    /// The bundle of the indication that ended the transaction, with that one alone; none if it hasn't ended.
     pub end: Option<Bundle>,
 }
 

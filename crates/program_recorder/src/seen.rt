@@ -46,7 +46,7 @@ impl Seen {
         })
     }
 
-    /// The indication that ended the transaction, as a bundle of its own.
+    /// The indication that ended the transaction, as a separate bundle.
     pub fn end_bundle(
         &self,
         alloc: Global,

@@ -1,4 +1,4 @@
-/// Who asks: a seat, and which of the visits to it. An answer that comes after its client has left has an earlier
+/// Who asks: a seat, and which of the visits to it. A reply that comes after its client has left has an earlier
 /// visit's number, so it never reaches the seat's next client.
 #[derive(Clone, Copy, Debug, PartialEq, Eq)]
 pub struct Asker {

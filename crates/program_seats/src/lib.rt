@@ -1,5 +1,5 @@
-//! The seats of a control socket's clients: the text that waits for each client, and which client an answer belongs to.
-//! The thread that answers never waits for a client.
+//! The seats of a control socket's clients: the text that waits for each client, and which client a reply belongs to.
+//! The thread that replies never waits for a client.
 #![tactic(auto)]
 
 mod asker;

@@ -5,7 +5,7 @@ use std::alloc::{AllocError, Global};
 use std::marker::Model;
 use std::mem;
 
-/// For how many octets to one client memory is reserved, so that a short answer needs none.
+/// For how many octets to one client memory is reserved, so that a short reply needs none.
 pub const RESERVED_OCTETS: usize = 4_096;
 
 /// Whether text can still be sent to a client.

@@ -19,7 +19,7 @@ pub enum Given {
     Gone,
 }
 
-/// The state of one seat, behind its lock. Contracts see all but the stream itself.
+/// The state of one seat, under its lock. Contracts see all but the stream itself.
 #[derive(Drop)]
 pub struct Seat<const ROOM: usize> {
     /// How many clients have sat here.
@@ -28,7 +28,7 @@ pub struct Seat<const ROOM: usize> {
     stream: Option<UnixStream>,
     /// Whether events are sent to the client, too.
     follows: bool,
-    /// Whether a command of the client awaits its answer.
+    /// Whether a command of the client awaits its reply.
     is_asking: bool,
     /// Whether nobody may sit down any more.
     is_closed: bool,
@@ -98,7 +98,7 @@ impl<const ROOM: usize> Seat<ROOM> {
         self.follows
     }
 
-    /// Whether a command of the client awaits its answer.
+    /// Whether a command of the client awaits its reply.
     pub fn is_asking(&self) -> bool
         ensures { result ≡ self.now.is_asking }
     {
@@ -133,7 +133,7 @@ impl<const ROOM: usize> Seat<ROOM> {
         !(self.is_closed || self.stream.is_some())
     }
 
-    /// Lets a client sit down, with nothing of the one before, and returns the visit's number; none where the seat is
+    /// Lets a client sit down, with nothing of the one before, and returns the visit's number; none if the seat is
     /// taken or closed, or the visit numbers are used up.
     pub fn sit(&mut self, stream: UnixStream) -> Option<u64>
         ensures number { IfSome result (λ visit. visit ≡ self.new.visits) }
@@ -153,7 +153,7 @@ impl<const ROOM: usize> Seat<ROOM> {
         Some(self.visits)
     }
 
-    /// Notes that a visit's command will await its answer; false where the client has left or takes no more text.
+    /// Notes that a visit's command will await its reply; false if the client has left or takes no more text.
     pub fn ask(&mut self, visit: u64) -> bool
         ensures { asked visit self.old result self.new }
     {
@@ -164,7 +164,7 @@ impl<const ROOM: usize> Seat<ROOM> {
         true
     }
 
-    /// Answers a visit's command; the client may then ask again. An answer after the visit changes nothing.
+    /// Replies to a visit's command; the client may then ask again. A reply after the visit changes nothing.
     pub fn answer(&mut self, visit: u64, text: &[u8]) -> Given
         ensures { IsAnswered ROOM text.now visit self.old result self.new }
     {
@@ -175,7 +175,7 @@ impl<const ROOM: usize> Seat<ROOM> {
         self.put(text)
     }
 
-    /// Sends a text to a visit, besides its answers.
+    /// Sends a text to a visit, besides its replies.
     pub fn send(&mut self, visit: u64, text: &[u8]) -> Given
         ensures { IsSentTo ROOM text.now visit self.old result self.new }
     {

@@ -53,7 +53,7 @@ struct Place {
     written: AtomicU64,
 }
 
-/// The seats of clients. The thread that answers never waits for a client. Each change of a seat is made by a method of
+/// The seats of clients. The thread that replies never waits for a client. Each change of a seat is made by a method of
 /// `Seat`, under the seat's lock.
 #[derive(Drop)]
 pub struct Seats {
@@ -169,7 +169,7 @@ impl Seats {
         }
     }
 
-    /// Waits until the client's command is answered; returns whether more may be read from the client.
+    /// Waits until the client's command has its reply; returns whether more may be read from the client.
     pub fn wait_answer<R: Wait>(&self, rt: &R, asker: Asker) -> bool {
         let Some(place) = self.places.get(asker.seat) else {
             return false;
@@ -248,7 +248,7 @@ impl Seats {
         }
     }
 
-    /// Sends a text, of whole lines, to one client, besides its answers. A client without room for it is cut off.
+    /// Sends a text, of whole lines, to one client, besides its replies. A client without room for it is cut off.
     pub fn send<R: Wait>(&self, rt: &R, asker: Asker, text: &[u8]) {
         if let Some(place) = self.places.get(asker.seat) {
             let given = place.seat.lock(rt).send(asker.visit, text);
@@ -266,7 +266,7 @@ impl Seats {
         }
     }
 
-    /// Waits for text to send, and moves it into `texts` in place of its content; false where no more will come.
+    /// Waits for text to send, and moves it into `texts` in place of its content; false if no more will come.
     pub fn take<R: Wait>(&self, rt: &R, asker: Asker, texts: &mut Vec<u8>) -> bool {
         let Some(place) = self.places.get(asker.seat) else {
             return false;

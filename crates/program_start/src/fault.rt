@@ -17,7 +17,7 @@ pub enum ProgramFault {
     Usage,
     /// A file can't be read.
     Read,
-    /// A file that is to be sent can't be read, and why.
+    /// A file to be sent can't be read, and why.
     Unread(Unread),
     /// The configuration is not taken; the number is its fault's.
     Config(u8),
@@ -38,7 +38,7 @@ pub enum ProgramFault {
     Refused(Refusal),
     /// The configuration has no lane for that event.
     NotRouted(RouteRefusal),
-    /// The lane behind the lock is another one.
+    /// The lock guards another lane.
     WrongLane,
 }
 

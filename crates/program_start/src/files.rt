@@ -74,7 +74,7 @@ pub(crate) fn octets_of<R: Files>(
     read_up_to(rt, alloc, path, CONFIG_OCTETS, 0).map_err(|error| fault_of(&error))
 }
 
-/// Reads a file as a configuration. A file that is not UTF-8 is not TOML.
+/// Reads a file as a configuration. A file that isn't UTF-8 isn't TOML.
 pub(crate) fn read_configuration<R: Files>(
     rt: &R,
     alloc: Global,

@@ -64,8 +64,9 @@ impl<'a> Arrivals<'a> {
         }
     }
 
-    // The PDU for a worker, from the first `count` octets that were read. A datagram that is not taken, is not a
-    // PDU, comes from another address than that of its own entity where that is wanted, or for which memory runs out even where parked ones gave way, is counted and dropped.
+    // The PDU for a worker, from the first `count` octets that were read. A datagram is counted and dropped if it is not taken,
+    // is not a PDU, comes from another address than that of its own entity where that is wanted, or if memory runs out for it even
+    // after parked ones gave way.
     fn pdu<R: Wait + Clock>(
         &self,
         forwarder: &Forwarder<'_, R>,

@@ -95,7 +95,7 @@ pub fn run_beside<
     )
 }
 
-/// `run_beside` with two more threads: one reads files that are wanted at the desk, the other reads lines of commands.
+/// `run_beside` with two more threads: one reads files wanted at the desk, the other reads lines of commands.
 /// That one is started last: if the others can't be started, nobody waits for a line.
 pub fn run_commanded<
     'x,
@@ -143,7 +143,7 @@ pub fn run_commanded<
     )
 }
 
-/// `run_beside` with the threads of a control socket, and one that reads files that are wanted at the desk. The sockets
+/// `run_beside` with the threads of a control socket, and one that reads files wanted at the desk. The sockets
 /// are removed once the work has ended.
 pub fn run_controlled<
     'x,

@@ -26,7 +26,7 @@ use txn_events::Refusal;
 const DATAGRAM_OCTETS: usize = 65_536;
 
 /// Sends the PDUs of a worker's steps, and leaves the rest of each step at the desk. A datagram that its lane can't take yet
-/// is parked, where there is a lot.
+/// is parked, if there is a lot.
 #[derive(Drop)]
 pub struct Forwarder<'a, R> {
     rt: &'a R,
@@ -66,7 +66,7 @@ impl<'a, R: Wait + Clock> Forwarder<'a, R> {
         place.is_some()
     }
 
-    /// Notes that the datagram that was read is a PDU of a remote entity with its address, where that is wanted.
+    /// Notes that the datagram that was read is a PDU of a remote entity with its address, if that is wanted.
     pub(crate) fn note_heard(&self) {
         if self.traffic.hears()
             && let Some((_, Some(place))) = self.known
@@ -83,7 +83,7 @@ impl<'a, R: Wait + Clock> Forwarder<'a, R> {
         }
     }
 
-    /// Counts a datagram that is not a PDU, or for which memory ran out.
+    /// Counts a datagram that isn't a PDU, or for which memory ran out.
     pub(crate) fn note_decode_fault(&self, fault: DecodeFault) {
         if fault == DecodeFault::NoMemory {
             self.note_refusal(RefusalKind::Lane(Refusal::NoMemory));
@@ -111,7 +111,8 @@ impl<'a, R: Wait + Clock> Forwarder<'a, R> {
         self.lot.is_occupied() && self.parks(count, Crowd::Wanted)
     }
 
-    // Parks the datagram that was read, unless it is a Prompt: the peer asks again. Where something was dropped for it, that counts as a refusal.
+    // Parks the datagram that was read, unless it is a Prompt: the peer asks again. If something was dropped for it, that counts
+    // as a refusal.
     fn parks(&self, count: usize, crowd: Crowd) -> bool {
         if self.is_prompted {
             return false;
@@ -139,7 +140,8 @@ impl<'a, R: Wait + Clock> Forwarder<'a, R> {
         was_handed
     }
 
-    /// Has parked datagrams give way where memory ran out, and counts that as a refusal; returns whether anything was dropped.
+    /// For a caller that ran out of memory: has parked datagrams give way, and counts that as a refusal. Returns whether anything
+    /// was dropped.
     pub(crate) fn gives_way(&self) -> bool {
         let gives_way = self.lot.gives_way(self.rt);
         if gives_way {
@@ -239,7 +241,7 @@ impl<'a, R: Wait + Clock> Carrier<Result<Done, Refused>> for Forwarder<'a, R> {
 
 /// One forwarder for each worker that `tallies` counts. They wake the main thread at once for a deposit and for a step
 /// of one of the entity's sending transactions, and for other steps as soon as `others` says. Datagrams are parked in the
-/// lot, where there is one.
+/// lot, if there is one.
 pub fn forwarders_of<'a, N: Names, R: Copy>(
     common: &Common<'a, N, R>,
     tallies: &'a Tallies,

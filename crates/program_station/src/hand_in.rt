@@ -15,7 +15,7 @@ use std::time::Clock;
 const HANDED: usize = 64;
 
 impl<'a, N: Names, R: Wait + Copy + Clock> Station<'a, N, R> {
-    /// Hands in datagrams that are parked here from now on.
+    /// Hands in datagrams parked here from now on.
     pub fn use_lot(&mut self, lot: &'a Lot) {
         self.lot = Some(lot);
     }

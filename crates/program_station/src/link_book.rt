@@ -71,7 +71,7 @@ impl<'a> LinkBook<'a> {
         self.links.iter().position(|link| link.id == id)
     }
 
-    /// Limits the octets that are sent to this remote entity to this many a second from a moment on, or lets it share the pace of
+    /// Limits the octets sent to this remote entity to this many a second from a moment on, or lets it share the pace of
     /// the links without a limit of their own.
     pub(crate) fn limit(&mut self, place: usize, octets: Option<u64>, now: u64) {
         self.tallies.links.limit_replies(place, octets.unwrap_or(0));
@@ -177,7 +177,7 @@ impl<'a> LinkBook<'a> {
         })
     }
 
-    /// When the next PDU of a transaction's file may be sent. What else was sent to its entity meanwhile, such as the answers of
+    /// When the next PDU of a transaction's file may be sent. What else was sent to its entity meanwhile, such as the responses of
     /// workers, counts too, as far as idle time doesn't pay for it, and holds the file back for a second at most.
     pub(crate) fn departure(&mut self, key: TxnKey, now: u64) -> Departure {
         let Some(place) = self.link_of(key) else {

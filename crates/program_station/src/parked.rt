@@ -16,7 +16,7 @@ pub(crate) enum Crowd {
     Any,
 }
 
-/// The lot of a worker, where there is one, and the datagram that the worker took from it to be handed in.
+/// The lot of a worker, if there is one, and the datagram that the worker took from it to be handed in.
 #[derive(Drop)]
 pub(crate) struct WorkersLot<'a> {
     alloc: Global,
@@ -26,7 +26,7 @@ pub(crate) struct WorkersLot<'a> {
 }
 
 impl<'a> WorkersLot<'a> {
-    /// Without a datagram that is handed in.
+    /// Without a datagram handed in.
     pub(crate) fn new(alloc: Global, config: &'a Config, lot: Option<&'a Lot>) -> WorkersLot<'a> {
         WorkersLot {
             alloc,
@@ -44,7 +44,7 @@ impl<'a> WorkersLot<'a> {
         }
     }
 
-    /// Whether a datagram that is refused like this is kept.
+    /// Whether a datagram refused like this is kept.
     pub(crate) fn may_wait(&self, refusal: &EntityRefusal) -> bool {
         match self.lot {
             Some(lot) => may_wait(lot.takes(), refusal),
@@ -60,7 +60,7 @@ impl<'a> WorkersLot<'a> {
         }
     }
 
-    /// The octets of the datagram that is handed in, if there is one.
+    /// The octets of the datagram handed in, if there is one.
     pub(crate) fn handed_octets(&self) -> Option<&[u8]> {
         match &self.handed {
             Some(handed) => Some(handed.octets.as_slice()),
@@ -68,7 +68,7 @@ impl<'a> WorkersLot<'a> {
         }
     }
 
-    /// Takes a datagram to be handed in, of a lane that was heard of. Where memory for its PDU runs out, it stays, and waits some
+    /// Takes a datagram to be handed in, of a lane that was heard of. If memory for its PDU runs out, it stays, and waits some
     /// milliseconds.
     pub(crate) fn next_pdu<R: Wait + Clock>(&mut self, rt: &R) -> Result<Option<Pdu>, AllocError> {
         let Some(lot) = self.lot else {
@@ -92,7 +92,7 @@ impl<'a> WorkersLot<'a> {
         }
     }
 
-    /// Parks a datagram. None where it isn't parked: it goes to no lane, or nothing waits before it and that is wanted.
+    /// Parks a datagram. None if it isn't parked: it goes to no lane, or nothing waits before it and that is wanted.
     pub(crate) fn park<R: Wait + Clock>(
         &self,
         rt: &R,

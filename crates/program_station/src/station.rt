@@ -191,7 +191,7 @@ impl<'a, N: Names, R: Wait + Copy + Clock> Station<'a, N, R> {
         self.settle(step);
     }
 
-    /// Sends the PDU with which a refusal answers, if there is one.
+    /// Sends the PDU with which a refusal responds, if there is one.
     pub fn send_echo(&mut self, refusal: &EntityRefusal) {
         self.sender.send_echo(refusal, moment(self.rt));
     }

@@ -17,7 +17,7 @@ pub struct WayIn<'a, R> {
 
 impl<'a, R: Copy> WayIn<'a, R> {
     /// A forwarder for each worker that `tallies` counts, for datagrams from these sources. `others` says how soon the
-    /// main thread has to handle a step for which no client waits. Datagrams are parked in the lot, where there is one.
+    /// main thread has to handle a step for which no client waits. Datagrams are parked in the lot, if there is one.
     pub fn new<N: Names>(
         common: &Common<'a, N, R>,
         tallies: &'a Tallies,

@@ -19,7 +19,7 @@ const ROLES: [(Role, Side); 2] = [
 const CLASSES: [Class; 3] = [Class::Unknown, Class::One, Class::Two];
 
 /// Adds a line for each way in which transactions ended, for the files that came whole in each role, and for the last file
-/// that the store was given; nothing where nothing is counted.
+/// that the store was given; nothing if nothing is counted.
 pub(crate) fn push_counts(
     alloc: Global,
     text: &mut String,
@@ -41,7 +41,7 @@ pub(crate) fn push_counts(
     }
 }
 
-/// How many octets the file lacks that a lane receives, where that is counted.
+/// How many octets the file lacks that a lane receives, if that is counted.
 pub(crate) fn missing_in(shown: &Shown<'_>, place: Place, glance: &Glance) -> Option<u64> {
     let counts = shown.counts?;
     if glance.has_ended || glance.end != Side::Receiver {
@@ -53,7 +53,7 @@ pub(crate) fn missing_in(shown: &Shown<'_>, place: Place, glance: &Glance) -> Op
     }
 }
 
-/// When the remote entity at a place of the configuration was heard last, where that is noted.
+/// When the remote entity at a place of the configuration was heard last, if that is noted.
 pub(crate) fn heard_at(tallies: &Tallies, place: usize, now: Moment) -> Option<Heard> {
     let at = tallies.heard(place)?;
     Some(Heard {

@@ -1,4 +1,4 @@
-//! What a server counts of transactions and files, where that is asked for.
+//! What a server counts of transactions and files, if that is asked for.
 use cfdp_types::{Class as PduClass, Condition, EntityId, TxnKey};
 use ended_counts::{Class, Ended, EndedCounts, Files, Role, is_whole};
 use entity_config::Config;
@@ -31,11 +31,11 @@ struct Followed {
 }
 
 /// What a server counts of transactions and files: those that ended, those that came whole, and the octets that arrived of
-/// each file that is being received.
+/// each file being received.
 #[derive(Drop)]
 pub struct StationCounts {
     local: EntityId,
-    /// The transactions that are followed of each lane of each user.
+    /// The followed transactions of each lane of each user.
     users: Vec<Vec<Vec<Followed>>>,
     /// Transactions that were opened and abandoned to use up their numbers, and whose ends weren't seen yet. None is counted.
     skipped: Vec<TxnKey>,
@@ -83,7 +83,7 @@ impl StationCounts {
         self.count_left(left);
     }
 
-    /// A transaction was opened to use up its number, so it isn't counted. Where memory runs out, it is.
+    /// A transaction was opened to use up its number, so it isn't counted. If memory runs out, it is.
     pub fn skip(&mut self, key: TxnKey) {
         let _has_memory = self.skipped.push(key);
     }
@@ -115,7 +115,7 @@ impl StationCounts {
         self.count_left(left);
     }
 
-    /// Asks the entity for the classes that aren't known, and counts the transactions that ended meanwhile. Where a lane runs
+    /// Asks the entity for the classes that aren't known, and counts the transactions that ended meanwhile. If a lane runs
     /// another transaction already, the class stays unknown.
     pub fn settle<N: Names, R: Wait + Copy>(&mut self, rt: &R, entity: &Entity<N, R>) {
         if !self.lacks_class {

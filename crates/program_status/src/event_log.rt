@@ -25,8 +25,8 @@ struct Identity {
 }
 
 /// A file to which events are appended. While it can't be written, events wait, and are lost once too many wait. A
-/// write that was cut short continues where it ended, so each line of the file is whole. Where an earlier run ended within a line,
-/// as after a power cut, a line feed closes it first. Where the path leads to another file later, or to none, it is opened anew.
+/// write that was cut short continues where it ended, so each line of the file is whole. If an earlier run ended within a line,
+/// as after a power cut, a line feed closes it first. If the path leads to another file later, or to none, it is opened anew.
 #[derive(Drop)]
 pub struct EventLog<R: Files> {
     alloc: Global,
@@ -115,7 +115,7 @@ impl<R: Files> EventLog<R> {
         }
     }
 
-    /// Writes what waits, at a moment in milliseconds. After a failure, the next attempt is a second later. Where the path leads to
+    /// Writes what waits, at a moment in milliseconds. After a failure, the next attempt is a second later. If the path leads to
     /// the open file no longer, the file is opened anew first; that is looked at twice a second.
     pub fn flush(&mut self, rt: &R, now: u64) {
         if now >= self.look_due {
@@ -139,7 +139,7 @@ impl<R: Files> EventLog<R> {
         }
     }
 
-    /// Writes what waits at once where it takes up half of its room, unless the file can't be written.
+    /// Writes what waits at once if it takes up half of its room, unless the file can't be written.
     pub fn relieve(&mut self, rt: &R) {
         if self.pending.len() >= PENDING_OCTETS / 2 && !self.is_failing {
             self.flush(rt, self.rests_until);

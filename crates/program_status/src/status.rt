@@ -51,13 +51,13 @@ pub struct Shown<'a> {
     pub clock: u64,
     pub tallies: &'a Tallies,
     pub notes: &'a LaneNotes,
-    /// The files that are to be sent.
+    /// The files to be sent.
     pub outgoing: &'a Outgoing,
-    /// The links that are open for a time.
+    /// The links open for a time.
     pub windows: &'a Windows,
-    /// The files that are being read.
+    /// The files being read.
     pub readings: &'a [Reading],
-    /// The received files that are being stored, or couldn't be stored so far.
+    /// The received files being stored, or those that couldn't be stored so far.
     pub storing: &'a [StoringStatus<'a>],
     /// The lanes for which datagrams wait or were dropped.
     pub parked: &'a [ParkedLane],
@@ -70,7 +70,7 @@ pub struct Shown<'a> {
     pub dropped_clients: u64,
     /// How many files were given to the store, and how many of them it did not keep.
     pub stores: (u64, u64),
-    /// What is counted of transactions and files, where that is asked for, and the last file that the store was given.
+    /// What is counted of transactions and files, if that is asked for, and the last file that the store was given.
     pub counts: Option<&'a StationCounts>,
     pub last_store: Option<StoreStatus>,
     /// Whether refusals show which PDU the last datagram was.
@@ -78,7 +78,7 @@ pub struct Shown<'a> {
 }
 
 /// Adds a line for the entity, for the log, for each user, for each lane that has run a transaction, for each file of
-/// the outbox, for each file that is being read or stored, for each lane for which datagrams are parked, for each remote entity,
+/// the outbox, for each file being read or stored, for each lane for which datagrams are parked, for each remote entity,
 /// for each kind of refusal, for each note on lanes, and for what is counted. The lanes' locks are taken one at a time.
 pub fn push_status<N: Names, R: Wait + Copy>(
     rt: &R,

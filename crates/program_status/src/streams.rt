@@ -5,7 +5,7 @@ use program_seats::{STREAMS, Seats};
 use std::alloc::{AllocError, Global};
 use std::sync::Wait;
 
-/// The word before an event that is sent to a client.
+/// The word before an event sent to a client.
 pub(crate) const WORD: &str = "event ";
 
 // The events of a turn for the clients that follow from a level on.

@@ -31,12 +31,12 @@ pub struct Storing {
 pub(crate) struct Pending {
     pub(crate) storing: Storing,
     pub(crate) deposit: Deposit,
-    /// Up to which moment by the runtime's clock it is tried again, where storing it fails for a while. The store's thread sets it
+    /// Up to which moment by the runtime's clock it is tried again, if storing it fails for a while. The store's thread sets it
     /// at the first try.
     pub(crate) last: Option<u64>,
 }
 
-/// A lane that couldn't take the store's answer yet.
+/// A lane that couldn't take the store's result yet.
 #[derive(Drop)]
 pub(crate) struct Untold {
     pub(crate) storing: Storing,

@@ -23,7 +23,7 @@ pub enum StorerTurn {
     Idle,
 }
 
-/// What stores received files, one after the other, and tells their lanes.
+/// What stores received files, one after the other, and notifies their lanes.
 #[derive(Drop)]
 pub struct Storer<'a, N: Names, R: Copy, S: Drop> {
     rt: &'a R,
@@ -67,7 +67,7 @@ impl<'a, N: Names, R: Wait + Copy + Clock, S: Filestore + StationFiles + Drop> S
         }
     }
 
-    /// Storing a file is tried again for so many milliseconds, where what hinders it may pass.
+    /// Storing a file is tried again for so many milliseconds, if what hinders it may pass.
     pub fn try_for(&mut self, milliseconds: u64) {
         self.retry = milliseconds;
     }
@@ -77,7 +77,7 @@ impl<'a, N: Names, R: Wait + Copy + Clock, S: Filestore + StationFiles + Drop> S
         self.shows_places = true;
     }
 
-    /// Does what is to be done at a moment by the runtime's clock: stores a file, or tells a lane again.
+    /// Does what is to be done at a moment by the runtime's clock: stores a file, or notifies a lane again.
     pub fn turn(&mut self, now: u64) -> StorerTurn {
         let kept = self.kept.take();
         self.begun = microseconds(self.rt);

@@ -27,7 +27,7 @@ impl Links {
     }
 
     /// Holds the link to the remote entity at this place of the configuration from a moment on, in milliseconds since
-    /// 1970: nothing is sent to it. For a link that is held already, the earlier moment stays.
+    /// 1970: nothing is sent to it. For a link already held, the earlier moment stays.
     pub fn hold(&self, place: usize, at: u64) {
         if let Some(since) = self.since.get(place)
             && since.load(Ordering::Relaxed) == OPEN
@@ -66,7 +66,7 @@ impl Links {
 
     /// Notes a reply of so many octets for the remote entity at this place, which is to leave at a moment of the runtime's
     /// clock, in milliseconds; returns whether it may. In a second at most as many octets leave as the link's limit says, or a hundred
-    /// replies where it has none; the first one always leaves.
+    /// replies if it has none; the first one always leaves.
     pub fn may_reply(&self, place: usize, octets: u64, now: u64) -> bool {
         match self.replies.get(place) {
             Some(replies) => replies.may_leave(octets, now),

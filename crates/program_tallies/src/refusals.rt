@@ -19,7 +19,7 @@ pub enum RefusalKind {
     Route(RouteRefusal),
     /// The lane refuses the event, for this reason.
     Lane(Refusal),
-    /// The lane behind the lock is another one.
+    /// The lock guards another lane.
     WrongLane,
     /// The datagram's source address is not in the configuration, and datagrams from such sources are dropped.
     ForeignSource,
@@ -39,7 +39,7 @@ impl RefusalKind {
         }
     }
 
-    /// The number that is printed for the kind.
+    /// The number printed for the kind.
     pub fn number(self) -> u8
         ensures { result ≡ number_of_kind self }
     {
@@ -51,7 +51,7 @@ impl RefusalKind {
         }
     }
 
-    /// The name that is printed for the kind.
+    /// The name printed for the kind.
     pub fn name(self) -> &'static str
         ensures { result.now ≡ name_of_kind self }
     {
@@ -63,7 +63,7 @@ impl RefusalKind {
         }
     }
 
-    /// The decode fault, for a datagram that is not a PDU.
+    /// The decode fault, for a datagram that isn't a PDU.
     pub fn fault(self) -> Option<DecodeFault>
         ensures { result ≡ fault_of self }
     {

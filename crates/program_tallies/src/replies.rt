@@ -1,4 +1,4 @@
-//! Replies that a peer may ask for at will: echoes of ended transactions, and answers to Prompts.
+//! Replies that a peer may ask for at will: echoes of ended transactions, and responses to Prompts.
 ghost use Rattle.std.specs.Prelude.{◌≡◌, ◌+◌, ◌≤◌, IfSome};
 ghost use Rattle.program_tallies.specs.Replies.{after_one, used_in};
 
@@ -50,7 +50,7 @@ impl Window {
 /// What may leave for one remote entity, as all threads see it.
 #[derive(Drop)]
 pub(crate) struct Replies {
-    /// Octets a second, or 0 where only their number is limited.
+    /// Octets a second, or 0 if only their number is limited.
     limit: AtomicU64,
     window: AtomicU64,
 }

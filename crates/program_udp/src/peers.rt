@@ -30,7 +30,7 @@ pub fn near_end_of(pdu: &Pdu) -> EntityId
     }
 }
 
-/// The address of an entity by the configuration; `None` for an entity that is not in it.
+/// The address of an entity by the configuration; `None` for an entity that isn't in it.
 pub fn address_of(config: &Config, id: EntityId) -> Option<SocketAddr>
     ensures { IfSome result (ListensAt config.now id) }
 {

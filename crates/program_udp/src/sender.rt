@@ -95,16 +95,16 @@ impl<'a> PduSender<'a> {
         octets
     }
 
-    /// Sends the PDUs of a step that answers a Prompt, at a moment by the runtime's clock. A peer may ask for them at will, so what
-    /// `Links::may_reply` doesn't allow is left out.
+    /// Sends the PDUs of a step that responds to a Prompt, at a moment by the runtime's clock. A peer may ask for them at will, so
+    /// what `Links::may_reply` doesn't allow is left out.
     pub fn send_prompted(&mut self, done: &Done, now: u64) {
         for pdu in done.pdus.as_slice() {
             self.send_as(pdu, Some(now));
         }
     }
 
-    /// Sends the PDU with which a refusal answers a PDU of an old transaction, if there is one, at a moment by the runtime's clock. It
-    /// is left out like an answer to a Prompt.
+    /// Sends the PDU with which a refusal responds to a PDU of an old transaction, if there is one, at a moment by the runtime's
+    /// clock. It is left out like a response to a Prompt.
     pub fn send_echo(&mut self, refusal: &EntityRefusal, now: u64) {
         if let EntityRefusal::Lane(refused) = refusal {
             if let Some(echo) = &refused.echo {

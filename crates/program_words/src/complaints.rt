@@ -131,7 +131,7 @@ fn new_complaint(matches: &ArgMatches<'_>) -> Option<&'static str> {
     numbers_complaint(matches)
 }
 
-/// What is wrong with a socket that stands beside the control socket, if anything.
+/// What is wrong with a socket beside the control socket, if anything.
 pub(crate) fn beside_complaint(
     beside: Option<&str>,
     control: Option<&str>,

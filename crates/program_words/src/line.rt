@@ -3,7 +3,7 @@ use std::env;
 use std::env::Env;
 use std::io::ErrorKind;
 
-/// The words of the command line; the first is the program's own name. A word that is not UTF-8 is a usage fault.
+/// The words of the command line; the first is the program's own name. A word that isn't UTF-8 is a usage fault.
 pub fn line_of<R: Env + AllocGlobal>(rt: &R) -> Result<Vec<String>, WordsFault> {
     let mut words = Vec::new(rt.alloc());
     match env::args(rt) {

@@ -50,7 +50,7 @@ pub(crate) fn repeated<'a>(alloc: Global, name: &'static str) -> Arg<'a>
     Arg::new(alloc, name).long(name).action(ArgAction::Append)
 }
 
-/// An option without a value, which is present or absent.
+/// An option without a value, present or absent.
 pub(crate) fn flag<'a>(alloc: Global, name: &'static str) -> Arg<'a>
     ensures rule { rule_of result ≡ flag name.entry.now }
     ensures local { result.global ≡ false }
@@ -99,7 +99,7 @@ pub(crate) fn is_name(word: &str) -> bool {
     !word.is_empty() && word.len() <= NAME_OCTETS
 }
 
-/// The limit in octets a second: `Some(None)` without a word, `None` where the word is not such a limit.
+/// The limit in octets a second: `Some(None)` without a word, `None` if the word is not such a limit.
 pub(crate) fn limit_of(word: Option<&str>) -> Option<Option<u64>>
     ensures { result ≡ limit_of (option_map (λ word. word.now) word.entry) }
 {
@@ -149,7 +149,7 @@ pub(crate) fn most_of(word: Option<&str>) -> Option<u64>
     }
 }
 
-/// The level that a word names: `Some(None)` without a word, `None` where the word isn't a level.
+/// The level that a word names: `Some(None)` without a word, `None` if the word isn't a level.
 pub(crate) fn level_of(word: Option<&str>) -> Option<Option<Level>>
     ensures { result ≡ level_of (option_map (λ word. word.now) word.entry) }
 {
@@ -174,7 +174,7 @@ fn mode_named(word: &str) -> Option<u32>
     }
 }
 
-/// The permissions that a word stands for, likewise.
+/// The permissions that a word means, likewise.
 pub(crate) fn mode_of(word: Option<&str>) -> Option<Option<u32>>
     ensures { result ≡ mode_of (option_map (λ word. word.now) word.entry) }
 {

@@ -51,7 +51,7 @@ pub(crate) struct ServerFlags {
     pub(crate) counters: bool,
 }
 
-/// The address and the paths; `None` where one of them can't be one.
+/// The address and the paths; `None` if one of them can't be one.
 pub(crate) fn paths_in<'a>(matches: &ArgMatches<'a>) -> Option<ServerPaths<'a>>
     ensures { IfSome result (λ paths. PathsSay (found_in (found_of matches.now)) paths) }
 {
@@ -83,7 +83,7 @@ pub(crate) fn paths_in<'a>(matches: &ArgMatches<'a>) -> Option<ServerPaths<'a>>
     })
 }
 
-/// The other values; `None` where one of them isn't allowed.
+/// The other values; `None` if one of them isn't allowed.
 pub(crate) fn values_in(matches: &ArgMatches<'_>) -> Option<ServerValues>
     ensures { IfSome result (λ values. ValuesSay (found_in (found_of matches.now)) values) }
 {

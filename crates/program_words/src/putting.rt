@@ -19,7 +19,7 @@ pub struct PutWords<'a> {
     pub config: &'a str,
     /// The address that the program listens at: `A.B.C.D:PORT`.
     pub bind: &'a str,
-    /// The name of the user whose Put it is.
+    /// The name of the sending user.
     pub user: &'a str,
     /// The remote entity that receives the file.
     pub remote: EntityId,
@@ -47,7 +47,7 @@ Usage: cfdp_put --config FILE --bind ADDR --user NAME --remote ID --class N [--c
 
   --config FILE   the configuration of the entity, in TOML
   --bind ADDR     where it listens: A.B.C.D:PORT, all in decimal
-  --user NAME     the user whose Put it is, by its name in the configuration
+  --user NAME     the sending user, by its name in the configuration
   --remote ID     the receiving entity, by its ID in the configuration
   --class N       1 (unacknowledged) or 2 (acknowledged)
   --closure       asks the receiver, in class 1 too, to report at the end what became of the file
@@ -61,9 +61,9 @@ Usage: cfdp_put --config FILE --bind ADDR --user NAME --remote ID --class N [--c
   --help          prints this, and ends
   --version       prints the version, and ends
 
-Status 0: the receiver reports that it has the whole file. 2: the transaction ended otherwise, as
-it always does in class 1 without --closure, where the sender is not notified of what became of the
-file. 1: a fault of the program.
+Status 0: the receiver reports that it has the whole file. 2: the transaction ended otherwise; in
+class 1 without --closure it always does, since the sender never learns what became of the file.
+1: a fault of the program.
 ";
 
 /// What `--help` of the program prints.

@@ -37,7 +37,7 @@ pub struct ServerWords<'a> {
     pub log: Option<&'a str>,
     /// The level from which on events are appended there, with their levels; all without it.
     pub log_level: Option<Level>,
-    /// The permissions of the files of both sockets, where they aren't their owner's alone.
+    /// The permissions of the files of both sockets, if they aren't their owner's alone.
     pub control_mode: Option<u32>,
     /// The path of the file that keeps where transaction numbers begin.
     pub numbers: Option<&'a str>,
@@ -55,7 +55,7 @@ pub struct ServerWords<'a> {
     pub hold: bool,
     /// Whether slashes in a received file's name lead into folders.
     pub tree: bool,
-    /// Whether each source's files lie in a folder of its ID.
+    /// Whether each source's files are kept in a folder named by its ID.
     pub by_source: bool,
     /// Whether an existing file is kept, and the new one gets another name.
     pub keep: bool,
@@ -63,7 +63,7 @@ pub struct ServerWords<'a> {
     pub retry: Option<u64>,
     /// How many octets of datagrams that a busy lane can't take yet are kept at most: 0 to 1,000,000,000,000.
     pub park: u64,
-    /// How many receiving lanes remote entities have for this one, where it isn't as many as this one has for each of
+    /// How many receiving lanes remote entities have for this one, if it isn't as many as this one has for each of
     /// them; at most one number for each.
     pub lanes: Vec<PeerLanes>,
     /// The folder where the scripts of transactions are kept.
@@ -72,7 +72,7 @@ pub struct ServerWords<'a> {
     pub record_all: bool,
     /// How many scripts are kept at most: 1 to 1,000,000.
     pub record_most: u64,
-    /// Whether the standard error says exactly what is wrong, also where no person reads it.
+    /// Whether the standard error says exactly what is wrong, even if no person reads it.
     pub explain: bool,
     /// Whether the status shows what became of transactions, what files lack, and when remote entities were heard last.
     pub counters: bool,
@@ -96,13 +96,13 @@ Usage: cfdp_server --config FILE --bind ADDR --folder DIR [--workers N] [--rate 
   --follow        prints each user's indications as they are issued, between replies to commands
   --control PATH  takes commands at this socket and replies there, instead of standard input and output
   --status-socket PATH  with --control: a second socket, which takes only `status`, `follow`, `outbox` and `journal`
-  --log FILE      appends events to this file, one JSON object a line
+  --log FILE      appends events to this file, one JSON object on each line
   --numbers FILE  keeps in this file where the numbers of the next run begin
   --known-sources drops datagrams from addresses that the configuration doesn't have
   --strict-sources drops these, and PDUs that come from another address than their entity's
   --hold          sends nothing to any remote entity until `release`
   --tree          slashes in a received file's name lead into folders
-  --by-source     keeps each source's files in a folder of its ID
+  --by-source     keeps each source's files in a folder named by its ID
   --keep          keeps an existing file; the new one gets `.1`, `.2` .. appended to its name
   --retry N       retries for N seconds, 1 to 86400, to store a received file (default: one attempt)
   --park OCTETS   keeps datagrams that a busy lane can't take yet, this many octets at most
@@ -119,13 +119,13 @@ Usage: cfdp_server --config FILE --bind ADDR --folder DIR [--workers N] [--rate 
   --outbox FILE   keeps in this file what waits in the outbox and what is under way from there
   --log-commands  reports each command that changes something as an event, and who gave it
   --counters      counts transactions by their ends, files and missing octets, and shows them in the status
-  --explain       says in a second line which key, path or address is wrong, and why; with --check, too;
+  --explain       says in a second line which key, path or address is wrong, and why, with --check too;
                   events say why a file can't be read, and a status which PDU was refused
   --check         with --config alone: reads FILE, prints `ok` or what is wrong with it, and ends
   --help          prints this, and ends
   --version       prints the version, and ends
 
-Commands, one a line, on standard input or over the socket:
+Commands, one on each line, on standard input or over the socket:
   put USER LANE CLASS DEST SRC DST [closure]
   send USER CLASS DEST SRC DST [closure] [urgent] [as NAME]
   outbox

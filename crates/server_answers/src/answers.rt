@@ -1,4 +1,4 @@
-//! What the server prints of an entity's answers: what a script prints, without the PDUs, which are sent.
+//! What the server prints of an entity's responses: what a script prints, without the PDUs, which are sent.
 ghost use Rattle.std.specs.Prelude.{◌≡◌, ◌++◌, OnOk};
 ghost use Rattle.std.specs.String.{string_bytes};
 ghost use Rattle.server_answers.specs.Answers.{bad_command_line, no_memory_line, taken_text, too_large_line, refusal_line, traced_text};

@@ -1,4 +1,4 @@
-//! The lines and texts that the server tells people: replies, why it ended too early, and what makes little sense in a
+//! The lines and texts of the server for people: replies, why it ended too early, and what makes little sense in a
 //! configuration.
 #![tactic(auto)]
 

@@ -32,27 +32,27 @@ use std::time::Clock;
 /// The file of an outbox, in its folder.
 pub type OutboxFolder<R> = HeldOutbox<SystemDisk<R>>;
 
-/// What the main thread of a server has, except where replies are printed.
+/// What the main thread of a server has, except the writer for replies.
 #[derive(Drop)]
 pub struct Server<'a, N: Names, R: Files + AllocGlobal + Copy + Drop> {
     pub rt: &'a R,
     pub alloc: Global,
     pub desk: &'a Desk,
-    /// The steps that are to be noted, the last one first.
+    /// The steps to be noted, the last one first.
     pub steps: Vec<Step>,
     pub station: Station<'a, N, R>,
-    /// The file of its numbers, where there is one.
+    /// The file of its numbers, if there is one.
     pub numbers: Option<HeldNumbers<R>>,
     pub audience: Audience<'a, R>,
-    /// The seats of its clients, where it has a control socket.
+    /// The seats of its clients, if it has a control socket.
     pub seats: Option<&'a Seats>,
     /// Where received files are left to be stored.
     pub depot: &'a Depot,
     pub tallies: &'a Tallies,
     pub outgoing: Outgoing,
-    /// The file of its outbox, where there is one.
+    /// The file of its outbox, if there is one.
     pub held: Option<OutboxFolder<R>>,
-    /// The links that are open for a time.
+    /// The links open for a time.
     pub windows: Windows,
     /// What the outbox began, and whether all transactions are abandoned whose journals are full, and not only those.
     pub begun: Begun,
@@ -110,7 +110,7 @@ fn given_up_by(request: &Request) -> Option<TxnKey> {
     }
 }
 
-/// Where a Put comes from that a client didn't give: its number in the outbox, and its source file name, where that is another
+/// Where a Put comes from that a client didn't give: its number in the outbox, and its source file name, if that is another
 /// than its path.
 #[derive(Drop)]
 pub(crate) struct FromOutbox {
@@ -228,7 +228,7 @@ impl<'a, N: Names, R: Wait + Clock + Files + AllocGlobal + Copy + Drop> Server<'
         }
     }
 
-    /// Puts a file that was read, `from` the outbox where it comes from there.
+    /// Puts a file that was read, `from` the outbox if it comes from there.
     pub(crate) fn put(
         &mut self,
         put: &PutCommand,
@@ -270,7 +270,7 @@ impl<'a, N: Names, R: Wait + Clock + Files + AllocGlobal + Copy + Drop> Server<'
         Ok(taken)
     }
 
-    /// Whether the file of numbers covers the next Put's number, where there is such a file.
+    /// Whether the file of numbers covers the next Put's number, if there is such a file.
     pub(crate) fn covers(&mut self) -> bool {
         match &mut self.numbers {
             Some(numbers) => numbers.cover().is_ok(),

@@ -1,4 +1,4 @@
-//! What a server counts where that is asked for.
+//! What a server counts if that is asked for.
 use crate::commands::Server;
 use cfdp_types::TxnKey;
 use entity_config::Config;
@@ -15,7 +15,7 @@ use std::rt::Files;
 use std::sync::Wait;
 use std::time::Clock;
 
-/// Begins to count, where the words ask for that.
+/// Begins to count, if the words ask for that.
 pub fn counts_of(
     alloc: Global,
     words: &ServerWords<'_>,

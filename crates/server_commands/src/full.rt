@@ -11,7 +11,7 @@ use std::time::Clock;
 const FULL: usize = 16;
 
 impl<'a, N: Names, R: Wait + Clock + Files + AllocGlobal + Copy + Drop> Server<'a, N, R> {
-    /// Abandons transactions whose journals are full: those that the outbox began, and all of them where that is wanted. Where
+    /// Abandons transactions whose journals are full: those that the outbox began, and all of them if that is wanted. If
     /// memory or room in the user's queue runs out, that is tried again.
     pub(crate) fn abandon_full(&mut self) {
         for _ in 0..FULL {

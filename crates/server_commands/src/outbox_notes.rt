@@ -12,7 +12,7 @@ use std::sync::Wait;
 use std::time::Clock;
 
 impl<'a, N: Names, R: Wait + Clock + Files + AllocGlobal + Copy + Drop> Server<'a, N, R> {
-    /// Notes that the file of the outbox with a number is under way in a lane, where the transaction before it has ended. A disk
+    /// Notes that the file of the outbox with a number is under way in a lane, if the transaction before it has ended. A disk
     /// that doesn't take it loses nothing, since the file counts as one that waits.
     pub(crate) fn note_begun(&mut self, place: Place, key: TxnKey, number: u64) {
         let before = self.begun.note(place, key, number);
@@ -24,14 +24,14 @@ impl<'a, N: Names, R: Wait + Clock + Files + AllocGlobal + Copy + Drop> Server<'
         }
     }
 
-    /// Notes that the file with a number left the outbox for good. Where the disk doesn't take it, that is tried again.
+    /// Notes that the file with a number left the outbox for good. If the disk doesn't take it, that is tried again.
     pub(crate) fn leave_outbox(&mut self, number: u64, way: Way, now: u64) {
         if let Some(held) = &mut self.held {
             let _as_it_may = held.leave(Gone { number, way }, now);
         }
     }
 
-    /// Looks which transactions of the outbox have ended, if one may have, and notes them. Where memory for that runs out, it looks
+    /// Looks which transactions of the outbox have ended, if one may have, and notes them. If memory for that runs out, it looks
     /// again.
     pub(crate) fn note_ends(&mut self, now: u64) {
         if self.held.is_none() || !self.begun.looks() {

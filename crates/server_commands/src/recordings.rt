@@ -18,7 +18,7 @@ impl<'a, N: Names, R: Wait + Clock + Files + AllocGlobal + Copy + Drop> Server<'
             .record_ended(self.rt, self.alloc, entity);
     }
 
-    /// Has a transaction recorded for who asks, or replies why that can't be.
+    /// Has a transaction recorded for whoever asks, or replies why that can't be.
     pub(crate) fn record_for(
         &mut self,
         key: TxnKey,

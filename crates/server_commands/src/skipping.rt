@@ -39,7 +39,7 @@ impl Refused {
 }
 
 impl<'a, N: Names, R: Wait + Clock + Files + AllocGlobal + Copy + Drop> Server<'a, N, R> {
-    /// Uses up numbers of a lane, up to the next one that may go, where a file waits for nothing else; whether it used any.
+    /// Uses up numbers of a lane, up to the next one that may go, if a file waits for nothing else; returns whether it used any.
     pub(crate) fn skip_some(&mut self, now: u64) -> bool {
         let Some(skip) = self.readiness.skip() else {
             return false;
@@ -94,7 +94,7 @@ impl<'a, N: Names, R: Wait + Clock + Files + AllocGlobal + Copy + Drop> Server<'
         true
     }
 
-    /// Abandons the transaction that was opened to use up its number, if it wasn't abandoned yet. It stays where memory or room
+    /// Abandons the transaction that was opened to use up its number, if it wasn't abandoned yet. It stays if memory or room
     /// in its user's queue ran out.
     pub(crate) fn abandon_opened(&mut self) {
         if let Some(Opened { user, key }) = self.opened

@@ -41,7 +41,7 @@ impl<'a, N: Names, R: Wait + Clock + Files + AllocGlobal + Copy + Drop> Server<'
         has_started || has_noted || has_worked || has_stored
     }
 
-    /// Sleeps until something comes, or until there is work without that: soon, where users' bundles wait for a client.
+    /// Sleeps until something comes, or until there is work without that: soon, if users' bundles wait for a client.
     pub fn rest(&self, now: u64, waits: bool) {
         let longest = if waits {
             REST_MS
@@ -97,7 +97,7 @@ impl<'a, N: Names, R: Wait + Clock + Files + AllocGlobal + Copy + Drop> Server<'
         has_stored
     }
 
-    /// Lets the file that is being stored come to its end, for some seconds at most, and notes what became of it.
+    /// Lets the file being stored come to its end, for some seconds at most, and notes what became of it.
     pub fn end_storing(&mut self) {
         let rt = self.rt;
         self.depot.close(rt);

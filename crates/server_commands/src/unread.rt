@@ -9,7 +9,7 @@ use std::sync::Wait;
 use std::time::Clock;
 
 impl<'a, N: Names, R: Wait + Clock + Files + AllocGlobal + Copy + Drop> Server<'a, N, R> {
-    /// Why the file of a line can't be read, where that is to be said.
+    /// Why the file of a line can't be read, if that is to be said.
     pub fn unread_of(&self, said: &Said) -> Option<Unread> {
         if !self.explains {
             return None;
@@ -21,7 +21,7 @@ impl<'a, N: Names, R: Wait + Clock + Files + AllocGlobal + Copy + Drop> Server<'
         }
     }
 
-    /// Why a file of the outbox can't be read, where that is to be said.
+    /// Why a file of the outbox can't be read, if that is to be said.
     pub(crate) fn unread_from_outbox(&self, file: &Result<Octets, ProgramFault>) -> Option<Unread> {
         if self.explains { unread_in(file) } else { None }
     }

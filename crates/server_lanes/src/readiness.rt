@@ -155,7 +155,7 @@ impl Readiness {
         })
     }
 
-    /// Looks at all sending lanes, at a moment of the runtime's clock. Where memory for that runs out, no lane counts as idle.
+    /// Looks at all sending lanes, at a moment of the runtime's clock. If memory for that runs out, no lane counts as idle.
     pub fn look<N: Names, R: Wait + Copy>(&mut self, rt: &R, entity: &Entity<N, R>, now: u64) {
         self.lanes.clear();
         self.spent.clear();

@@ -19,7 +19,7 @@ pub struct PutCommand {
     /// Whether the receiver is asked to report at the end what became of the file; it matters in class 1 only.
     pub closure: bool,
     pub destination: EntityId,
-    /// The path of the file here, and its source file name: 1 to 255 octets, beyond ASCII only where it was quoted.
+    /// The path of the file here, and its source file name: 1 to 255 octets, beyond ASCII only if it was quoted.
     pub source: Octets,
     /// Its destination file name, of 1 to 255 octets likewise.
     pub destination_name: Octets,
@@ -33,14 +33,14 @@ pub struct SendCommand {
     /// Whether the receiver is asked to report at the end what became of the file; it matters in class 1 only.
     pub closure: bool,
     pub destination: EntityId,
-    /// The path of the file here: 1 to 255 octets, beyond ASCII only where it was quoted. It is the source file name too,
-    /// where none is given.
+    /// The path of the file here: 1 to 255 octets, beyond ASCII only if it was quoted. It is the source file name too,
+    /// if none is given.
     pub source: Octets,
     /// Its destination file name, of 1 to 255 octets likewise.
     pub destination_name: Octets,
     /// Whether it goes before its user's files that aren't urgent.
     pub is_urgent: bool,
-    /// Its source file name, of 1 to 255 octets likewise, where it is another than the path.
+    /// Its source file name, of 1 to 255 octets likewise, if it is another than the path.
     pub source_name: Option<Octets>,
 }
 
@@ -95,7 +95,7 @@ pub enum Command {
     Quit,
 }
 
-/// Parses a line of commands, by the users and lanes of a configuration; `None` where it is not a command. A line
+/// Parses a line of commands, by the users and lanes of a configuration; `None` if it isn't a command. A line
 /// without double quotes allocates only a file's names; one with quotes allocates each of its words.
 pub fn command_of(
     alloc: Global,

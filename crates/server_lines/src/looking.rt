@@ -4,7 +4,7 @@ ghost use Rattle.server_lines.specs.Looks.{only_looks, only_watches};
 
 use crate::command::{Command, Tuning};
 
-/// Whether a command only looks at the station, so that it is answered at a status socket, too.
+/// Whether a command only looks at the station, so that a status socket takes it, too.
 pub fn only_looks(command: &Command) -> bool
     ensures { result ≡ only_looks command.now }
 {

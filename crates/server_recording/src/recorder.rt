@@ -35,7 +35,7 @@ pub struct Recorder<'x, R, F> {
     alloc: Global,
     files: &'x F,
     config: &'x Config,
-    /// The text of the configuration's file, where that is a plain file.
+    /// The text of the configuration's file, if that is a plain file.
     text: Option<Octets>,
     book: &'x Book,
     desk: &'x Desk,

@@ -1,4 +1,4 @@
-//! Which transactions are recorded: those that failed, or all of them, in a folder, and any one for who asks.
+//! Which transactions are recorded: those that failed, or all of them, in a folder, and any one for whoever asks.
 use cfdp_types::{Delivery as Delivered, FileStatus, TxnKey};
 use entity_config::Config;
 use entity_routing::{Place, place_of_key};
@@ -40,7 +40,7 @@ pub(crate) enum Reader {
     Output(u64),
 }
 
-/// A transaction that is to be recorded.
+/// A transaction to be recorded.
 #[derive(Drop)]
 pub(crate) struct Job {
     pub(crate) reader: Reader,
@@ -54,7 +54,7 @@ pub(crate) struct Job {
 #[derive(Drop)]
 struct Tray {
     jobs: VecDeque<Job>,
-    /// What is to be printed, once it is made, and the number of the recording that is wanted.
+    /// What is to be printed, once it is made, and the number of the wanted recording.
     printed: Option<Printed>,
     wanted: u64,
     is_closed: bool,
@@ -118,7 +118,7 @@ impl Book {
         is_left
     }
 
-    /// The next transaction to be recorded. Where `is_busy`, it waits for a moment only.
+    /// The next transaction to be recorded. If `is_busy`, it waits for a moment only.
     pub(crate) fn next<R: Wait + Clock>(&self, rt: &R, is_busy: bool) -> Found {
         let mut tray = self.tray.lock(rt);
         for _ in rt.forever() {
@@ -282,7 +282,7 @@ impl<'a> Watched<'a> {
         }
     }
 
-    /// A transaction was opened to use up its number, so it isn't recorded. Where memory runs out, it is.
+    /// A transaction was opened to use up its number, so it isn't recorded. If memory runs out, it is.
     pub fn skip(&mut self, key: TxnKey) {
         if self.book.records() {
             let _has_memory = self.skipped.push(key);
@@ -339,8 +339,8 @@ impl<'a> Watched<'a> {
         self.book.leave(rt, job)
     }
 
-    /// Has a transaction recorded for who asks; whether it is left to be. Where nobody at a control socket asks, the recording is
-    /// printed.
+    /// Has a transaction recorded for whoever asks; returns whether it was left to be recorded. If nobody at a control socket asks,
+    /// the recording is printed.
     pub fn record_for<N: Names, R: Wait + Clock + Copy>(
         &mut self,
         rt: &R,

@@ -25,7 +25,7 @@ pub struct Audience<'a, R: Files> {
     follows: bool,
     pub reports: Reports<'a, R>,
     pub watched: Watched<'a>,
-    /// What is counted, where that is asked for.
+    /// What is counted, if that is asked for.
     pub counts: Option<StationCounts>,
 }
 

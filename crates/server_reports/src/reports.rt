@@ -21,7 +21,7 @@ use std::time::Clock;
 // How long refusals gather before they are reported, in milliseconds.
 const REFUSALS_MS: u64 = 1_000;
 
-/// What a server has noted of its lanes, and what it reports, where clients or a log may read it.
+/// What a server has noted of its lanes, and what it reports, if clients or a log may read it.
 #[derive(Drop)]
 pub struct Reports<'a, R: Files> {
     rt: &'a R,
@@ -104,7 +104,7 @@ impl<'a, R: Wait + Clock + Files> Reports<'a, R> {
         }
     }
 
-    /// Whether events reach the log, where there is one.
+    /// Whether events reach the log, if there is one.
     pub fn log_status(&self) -> Option<LogStatus> {
         match &self.events {
             Some(events) => events.log_status(),

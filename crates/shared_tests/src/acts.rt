@@ -136,7 +136,7 @@ fn put<N: Names, R: Wait + Copy>(
 // waits, or the user's queue is full.
 const EARLY: [u8; 4] = [1, 3, 6, 13];
 
-/// Passes an event to its lane, again and again while it comes too early; answers whether the lane took it.
+/// Passes an event to its lane, again and again while it comes too early; returns whether the lane took it.
 pub(crate) fn tell_in_time<N: Names, R: Wait + Copy>(
     rt: &R,
     alloc: Global,

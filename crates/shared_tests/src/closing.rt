@@ -25,7 +25,7 @@ fn deliver_both<N: Names, R: Wait + Copy>(rt: &R, entity: &Entity<N, R>, seq: u8
     is_taken(rt, entity, &metadata(1, seq)) && is_taken(rt, entity, &eof(1, seq))
 }
 
-/// Delivers two files, each in a thread of its own. Then the user takes all indications, and the lanes give their
+/// Delivers two files, each in its own thread. Then the user takes all indications, and the lanes give their
 /// outlets back.
 pub(crate) fn deliver_two<N: Names + Send + Sync, R: Threads + Wait + Copy + Send + Sync>(
     rt: &R,

@@ -56,7 +56,7 @@ impl<R: Wait> Watch<R> {
         self.arrived.fetch_add(1, Ordering::SeqCst);
     }
 
-    /// Waits until so many threads have arrived; answers whether they did.
+    /// Waits until so many threads have arrived; returns whether they did.
     pub(crate) fn waits_for(&self, wanted: u64) -> bool {
         for _ in 0..TURNS {
             if self.arrived.load(Ordering::SeqCst) >= wanted {

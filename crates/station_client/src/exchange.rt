@@ -1,4 +1,4 @@
-//! The answer of one command, and the events that came with it.
+//! The reply of one command, and the events that came with it.
 ghost use Rattle.std.specs.Prelude.{◌≡◌, ◌≤◌, [], drop, length, option_map, slice_get, OnOk, OnErr};
 ghost use Rattle.station_client.specs.Exchanges.{with_line};
 
@@ -9,13 +9,13 @@ use std::collections::VecDeque;
 use std::marker::Model;
 use std::mem;
 
-/// The most octets of an answer.
+/// The most octets of a reply.
 pub const ANSWER_OCTETS: usize = 256 * 1024 * 1024;
 
 // How many octets the word `event` and its space have.
 const EVENT_WORD_OCTETS: usize = 6;
 
-/// The answer so far, and the events that nobody has taken yet.
+/// The reply so far, and the events that nobody has taken yet.
 #[derive(Debug, Drop)]
 pub struct Exchange {
     answer: Vec<u8>,
@@ -81,7 +81,7 @@ impl Exchange {
         Ok(())
     }
 
-    /// Takes the answer.
+    /// Takes the reply.
     pub fn take_answer(&mut self, alloc: Global) -> Vec<u8>
         ensures answer { result.items ≡ self.old.answer }
         ensures left { self.new ≡ record self.old { answer = [] } }

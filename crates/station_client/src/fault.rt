@@ -1,6 +1,6 @@
 use std::alloc::AllocError;
 
-/// Why a station doesn't answer.
+/// Why a station doesn't reply.
 #[derive(Clone, Copy, Debug, PartialEq, Eq)]
 pub enum StationFault {
     /// Nobody listens at the path, or lets clients in.
@@ -13,9 +13,9 @@ pub enum StationFault {
     Busy,
     /// The station ended, or cut us off.
     Gone,
-    /// No whole answer came in time.
+    /// No whole reply came in time.
     TimedOut,
-    /// A line or an answer was longer than a station sends.
+    /// A line or a reply was longer than a station sends.
     TooLong,
     /// The command has a line feed inside.
     BadCommand,

@@ -1,4 +1,4 @@
-//! A station's control socket from the client's side: commands, answers, events.
+//! A station's control socket from the client's side: commands, replies, events.
 #![tactic(auto)]
 
 mod connecting;

@@ -12,9 +12,9 @@ pub const LINE_OCTETS: usize = 140_000;
 /// The kinds of lines.
 #[derive(Clone, Copy, Debug, PartialEq, Eq)]
 pub enum LineKind {
-    /// A line of an answer.
+    /// A line of a reply.
     Answer,
-    /// The end of an answer: a single dot.
+    /// The end of a reply: a single dot.
     End,
     /// An event: `event JSON`.
     Event,
@@ -108,7 +108,7 @@ impl Incoming {
         }
     }
 
-    /// Moves the first whole line into `line`, in place of its content, and answers its kind; `None` without a whole
+    /// Moves the first whole line into `line`, in place of its content, and returns its kind; `None` without a whole
     /// line. After an error, the content of `line` is unspecified.
     pub fn next_line(&mut self, line: &mut Vec<u8>) -> Result<Option<LineKind>, StationFault>
         ensures ok { IfOk result (λ kind. IsNext kind self.old line.new.items self.new) }

@@ -17,7 +17,7 @@ const BLOCK_OCTETS: usize = 16 * 1024;
 // How many milliseconds to wait before the next attempt to connect.
 const REST_MILLIS: u64 = 50;
 
-/// A connection to a station's control socket. After a fault, every later call gives the same fault, except
+/// A connection to a station's control socket. After a fault, every later call returns the same fault, except
 /// `BadCommand`, which changes nothing.
 #[derive(Drop)]
 pub struct Station {
@@ -70,7 +70,7 @@ impl Station {
         Err(StationFault::NoServer)
     }
 
-    /// Connects, sends one command and leaves; gives the command's answer. All that within the time limit.
+    /// Connects, sends one command and leaves; returns the command's reply. All that within the time limit.
     pub fn ask_once<R: Net + Clock + Wait>(
         rt: &R,
         alloc: Global,
@@ -83,7 +83,7 @@ impl Station {
         station.ask(rt, command, left_until(rt, until)?)
     }
 
-    /// Sends a command, a line without its line feed, and gives the lines of its answer, each with its line feed,
+    /// Sends a command, a line without its line feed, and returns the lines of its reply, each with its line feed,
     /// without the final dot. Events that come in between are kept for `next_event`.
     pub fn ask<R: Clock + Wait>(
         &mut self,

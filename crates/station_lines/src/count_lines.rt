@@ -1,4 +1,4 @@
-//! The lines of a status that show what a server counts where that is asked for.
+//! The lines of a status that show what a server counts if that is asked for.
 ghost use Rattle.std.specs.Prelude.{◌≡◌, ◌++◌, OnErr, OnOk, string_bytes};
 ghost use Rattle.station_lines.specs.CountLines.{delivered_line, delivered_members, ended_line, ended_members, store_line, store_members};
 

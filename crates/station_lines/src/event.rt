@@ -52,7 +52,7 @@ pub struct UnsentEvent<'a> {
     pub file: &'a [u8],
     /// Why it was given up.
     pub why: &'a str,
-    /// Why its file can't be read, where that is said.
+    /// Why its file can't be read, if that is said.
     pub reason: Option<&'a str>,
 }
 
@@ -61,11 +61,11 @@ pub struct UnsentEvent<'a> {
 pub struct CommandEvent<'a> {
     /// Its words, as it was understood.
     pub words: &'a str,
-    /// The first line of its answer, without the line feed.
+    /// The first line of its reply, without the line feed.
     pub answer: &'a str,
-    /// The seat of the client that gave it; `None` where it came over standard input.
+    /// The seat of the client that gave it; `None` if it came over standard input.
     pub seat: Option<u64>,
-    /// Why its file can't be read, where that is said.
+    /// Why its file can't be read, if that is said.
     pub reason: Option<&'a str>,
 }
 

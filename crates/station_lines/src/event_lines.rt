@@ -208,7 +208,7 @@ fn reason_members(line: &mut Line, reason: Option<&str>) -> Result<(), AllocErro
     }
 }
 
-/// Adds the line of a store's answer: whether it kept the file of a transaction, and its path below the folder, if that
+/// Adds the line of a store's result: whether it kept the file of a transaction, and its path below the folder, if that
 /// is shown.
 pub fn push_stored_event(
     alloc: Global,

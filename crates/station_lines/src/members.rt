@@ -18,7 +18,7 @@ pub struct RefusedCase<'a> {
     pub number: u8,
     /// The name of the refusal.
     pub name: &'a str,
-    /// The number of the decode fault, for octets that are not a PDU.
+    /// The number of the decode fault, for octets that aren't a PDU.
     pub fault: Option<u8>,
     /// How many of them there were.
     pub count: u64,
@@ -38,7 +38,7 @@ pub struct Datagram<'a> {
 /// What the first octets of a refused datagram say of its PDU.
 #[derive(Clone, Copy, Debug)]
 pub struct RefusedPdu<'a> {
-    /// Its transaction, where the octets name one.
+    /// Its transaction, if the octets name one.
     pub key: Option<TxnKey>,
     /// The kind of the PDU, or that it is none.
     pub kind: &'a str,

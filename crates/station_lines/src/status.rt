@@ -43,7 +43,7 @@ pub struct Counters {
     pub ended_reads: u64,
     /// Datagrams from an address that isn't in the configuration.
     pub foreign_datagrams: u64,
-    /// Datagrams that are not PDUs.
+    /// Datagrams that aren't PDUs.
     pub decode_faults: u64,
     /// Datagrams, commands and timers that the entity refused.
     pub refused: u64,
@@ -91,7 +91,7 @@ pub struct TransactionStatus<'a> {
     pub ending: Option<Ending>,
     /// What an operator should do about the transaction or its lane.
     pub notice: Option<Notice>,
-    /// How many octets a file that is being received lacks, if that is counted.
+    /// How many octets a file being received lacks, if that is counted.
     pub missing: Option<u64>,
 }
 
@@ -137,7 +137,7 @@ pub struct QueuedStatus<'a> {
     pub since: Moment,
 }
 
-/// A file that is being read for a Put.
+/// A file being read for a Put.
 #[derive(Clone, Copy, Debug)]
 pub struct ReadingStatus<'a> {
     /// Its path.
@@ -145,7 +145,7 @@ pub struct ReadingStatus<'a> {
     pub since: Moment,
 }
 
-/// A received file that is being stored, or couldn't be stored so far.
+/// A received file being stored, or one that couldn't be stored so far.
 #[derive(Clone, Copy, Debug)]
 pub struct StoringStatus<'a> {
     pub source: EntityId,
@@ -212,7 +212,7 @@ pub struct Heard {
 pub struct EndedStatus {
     /// This end's role.
     pub end: Side,
-    /// Their class, or 0 where the server doesn't know it.
+    /// Their class, or 0 if the server doesn't know it.
     pub class: u8,
     pub condition: u8,
     /// How many they are.

@@ -317,7 +317,7 @@ fn queued_file(line: &mut Line, queued: &QueuedStatus<'_>) -> Result<(), AllocEr
     line.moment(member::SINCE, queued.since)
 }
 
-/// Adds the line of a file that is being read.
+/// Adds the line of a file being read.
 pub fn push_reading(
     alloc: Global,
     text: &mut String,
@@ -339,7 +339,7 @@ fn reading_members(line: &mut Line, reading: &ReadingStatus<'_>) -> Result<(), A
     line.moment(member::SINCE, reading.since)
 }
 
-/// Adds the line of a received file that is being stored, or couldn't be stored so far.
+/// Adds the line of a received file being stored, or one that couldn't be stored so far.
 pub fn push_storing(
     alloc: Global,
     text: &mut String,
@@ -419,7 +419,7 @@ fn since_members(line: &mut Line, since: Option<Moment>) -> Result<(), AllocErro
     }
 }
 
-/// Adds the line of a kind of refusal, with the moment of the last one, and what its datagram says of its PDU, where that is shown.
+/// Adds the line of a kind of refusal, with the moment of the last one, and what its datagram says about its PDU, if that is shown.
 pub fn push_refusal(
     alloc: Global,
     text: &mut String,

@@ -25,7 +25,7 @@ impl Pipe {
         }
     }
 
-    /// Writes octets; answers whether there was memory for them.
+    /// Writes octets; returns whether there was memory for them.
     pub fn put<R: Wait>(&self, rt: &R, octets: &[u8]) -> bool {
         let put = self.held.lock(rt).octets.extend_from_slice(octets);
         self.came.notify_all();

@@ -41,7 +41,7 @@ impl Pipes {
         }
     }
 
-    /// The answer to a command whose answer is one line; `None` if the program doesn't give it.
+    /// The reply to a command whose reply is one line; `None` if the program doesn't give it.
     pub fn ask<R: Wait + Clock>(&self, rt: &R, alloc: Global, command: &[u8]) -> Option<String> {
         if !self.to.put(rt, command) {
             return None;
@@ -49,7 +49,7 @@ impl Pipes {
         self.from.line(rt, alloc, PATIENCE)
     }
 
-    /// Repeats a command until its answer ends with `end`; answers whether it does.
+    /// Repeats a command until its reply ends with `end`; returns whether it does.
     pub fn ask_until<R: Wait + Clock>(
         &self,
         rt: &R,

@@ -35,7 +35,7 @@ impl<'a> Asked<'a> {
         }
     }
 
-    /// How many milliseconds the station may take to let the console in and to answer.
+    /// How many milliseconds the station may take to let the console in and to reply.
     pub(crate) fn millis(self) -> u64 {
         match self {
             Asked::Status | Asked::Events => ANSWER_MILLIS,

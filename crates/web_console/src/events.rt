@@ -53,7 +53,7 @@ impl Events {
         Ok(())
     }
 
-    /// Keeps an event of the run, and forgets the oldest ones where there are too many. One whose number doesn't rise
+    /// Keeps an event of the run, and forgets the oldest ones if there are too many. One whose number doesn't rise
     /// came before, and isn't kept again; nor is one with a carriage return.
     pub fn push(&mut self, number: u64, json: Vec<u8>) -> Result<(), AllocError> {
         if json.as_slice().contains(&b'\r') || self.newest() >= Some(number) {
@@ -96,7 +96,7 @@ impl Events {
         }
     }
 
-    /// Adds the events behind the one with this ID, as server-sent events; all of them where the ID is none of this run's. The
+    /// Adds the events after the one with this ID, as server-sent events; all of them if the ID isn't one of this run's. The
     /// reader is asked to come again after a second.
     pub fn append_to(&self, last: &[u8], text: &mut Vec<u8>) -> Result<(), AllocError> {
         let after = self.number_of(last);

@@ -1,15 +1,15 @@
-//! The last answer to `status`.
+//! The last reply to `status`.
 use std::alloc::Global;
 use std::sync::Arc;
 use std::time::Duration;
 
-/// For how many milliseconds an answer is used again.
+/// For how many milliseconds a reply is used again.
 const FRESH_MILLIS: u64 = 500;
 
-/// The lines of an answer, or none where the station couldn't be asked.
+/// The lines of a reply, or none if the station couldn't be asked.
 pub(crate) type Lines = Option<Arc<Vec<u8>, Global>>;
 
-/// The last answer to `status`, when it came, and whether somebody asks for the next one.
+/// The last reply to `status`, when it came, and whether somebody asks for the next one.
 #[derive(Drop)]
 pub(crate) struct Kept {
     // on the system's own clock; none where nothing was asked yet
@@ -33,7 +33,7 @@ impl Kept {
         self.is_asking
     }
 
-    /// Whether the answer can still be used at a moment.
+    /// Whether the reply can still be used at a moment.
     pub(crate) fn is_fresh(&self, now: Duration) -> bool {
         match self.at {
             Some(at) => now.saturating_sub(at) < Duration::from_millis(FRESH_MILLIS),
@@ -41,7 +41,7 @@ impl Kept {
         }
     }
 
-    /// The answer's lines.
+    /// The reply's lines.
     pub(crate) fn lines(&self) -> Lines {
         match &self.lines {
             Some(lines) => Arc::try_clone(lines).ok(),
@@ -54,7 +54,7 @@ impl Kept {
         self.is_asking = true;
     }
 
-    /// Keeps the answer that came at a moment.
+    /// Keeps the reply that came at a moment.
     pub(crate) fn keep(&mut self, at: Option<Duration>, lines: Lines) {
         self.at = at;
         self.lines = lines;

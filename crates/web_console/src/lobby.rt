@@ -55,14 +55,14 @@ impl Lobby {
         ready.pop_front()
     }
 
-    /// Gives back a visit that waits for octets. Where there is no memory for it, it is over.
+    /// Gives back a visit that waits for octets. If there is no memory for it, it is over.
     pub(crate) fn give_back<R: Wait>(&self, rt: &R, visit: Visit) {
         let _kept = self.back.lock(rt).push(visit);
         let mut button = &self.button;
         let _rung = button.write(b".".as_slice());
     }
 
-    /// The descriptor at which octets come where visits were given back.
+    /// The descriptor at which octets come when visits are given back.
     pub(crate) fn bell(&self) -> i32 {
         self.bell.as_raw_fd()
     }

@@ -30,7 +30,7 @@ pub(crate) struct Visit {
     connection: Connection,
     /// When the console's patience ends, on the system's own clock.
     until: Duration,
-    /// Whether an answer is to be taken; else a request is to come.
+    /// Whether a response is to be taken; else a request is to come.
     is_writing: bool,
     /// Whether no octet has come yet.
     is_silent: bool,
@@ -64,7 +64,7 @@ impl Visit {
         self.stream.as_raw_fd()
     }
 
-    /// Whether an answer is to be taken; else a request is to come.
+    /// Whether a response is to be taken; else a request is to come.
     pub(crate) fn is_writing(&self) -> bool {
         self.is_writing
     }

@@ -27,7 +27,7 @@ const FOLLOW_MILLIS: u64 = 5000;
 // For how many milliseconds one waits for an event at once.
 const EVENT_MILLIS: u64 = 60_000;
 
-/// What the console knows of its station: it is asked one `status` at a time, and an answer is used again for half a second.
+/// What the console knows of its station: it is asked one `status` at a time, and a reply is used again for half a second.
 /// No lock is held while the station is asked, and it is asked nothing but what `Asked` has.
 #[derive(Drop)]
 pub struct Watch<'a, R> {

@@ -10,7 +10,7 @@ use std::alloc::{AllocError, Global};
 
 /// One document of the lines: an object with the members `entities`, `logs`, `users`, `transactions`, `remotes`, `refusals`,
 /// `outbox`, `reading`, `parked`, `storing` and `recorders`, each the list of the lines of its kind, in order and as they came; and
-/// `ended`, `delivered` and `stores`, where there are such lines. A line that is no JSON object of one of these kinds is left out.
+/// `ended`, `delivered` and `stores`, if there are such lines. A line that isn't a JSON object of one of these kinds is left out.
 pub fn to_document(alloc: Global, text: &str) -> Result<Vec<u8>, AllocError>
     ensures { IfOk result (λ document. IsDocument text.now document.items) }
 {

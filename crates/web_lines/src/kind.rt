@@ -17,11 +17,11 @@ pub enum Kind {
     Refusal,
     /// A file that waits in the outbox.
     Queued,
-    /// A file that is being read.
+    /// A file being read.
     Reading,
     /// A lane for which datagrams wait, or were dropped.
     Parked,
-    /// A received file that is being stored, or couldn't be stored so far.
+    /// A received file being stored, or one that couldn't be stored so far.
     Storing,
     /// The recordings of transactions.
     Recorder,
@@ -79,7 +79,7 @@ impl Kind {
         }
     }
 
-    /// The kind of a line that was read; none where it is no object of a kind that is known here.
+    /// The kind of a line that was read; none if it isn't an object of a kind known here.
     pub(crate) fn of(value: &Value<'_>) -> Option<Kind>
         ensures { result ≡ kind_of_value (value_view value.now) }
     {

@@ -14,7 +14,7 @@ pub(crate) struct Line<'a> {
     pub(crate) text: &'a str,
 }
 
-/// The lines of a text, in order. A line that is not a JSON object of a known kind is left out.
+/// The lines of a text, in order. A line that isn't a JSON object of a known kind is left out.
 pub(crate) fn read_lines<'a>(alloc: Global, text: &'a str) -> Result<Vec<Line<'a>>, AllocError>
     ensures { IfOk result (λ lines. AreLinesOf text.now lines.items) }
 {

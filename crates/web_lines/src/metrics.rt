@@ -9,7 +9,7 @@ use crate::lines::read_lines;
 use crate::series::{push_told, push_told_counts};
 use std::alloc::{AllocError, Global};
 
-/// The numbers of a station's status, in Prometheus' text format. A line that is no JSON object of a known kind counts for
+/// The numbers of a station's status, in Prometheus' text format. A line that isn't a JSON object of a known kind counts for
 /// nothing.
 pub fn to_metrics(alloc: Global, status: &str) -> Result<Vec<u8>, AllocError>
     ensures { IfOk result (λ text. IsMetrics status.now text.items) }
@@ -23,7 +23,7 @@ pub fn to_metrics(alloc: Global, status: &str) -> Result<Vec<u8>, AllocError>
     Ok(text)
 }
 
-/// What `to_metrics` gives where the station can't be asked: that it isn't up.
+/// What `to_metrics` returns if the station can't be asked: that it isn't up.
 pub fn no_metrics(alloc: Global) -> Result<Vec<u8>, AllocError>
     ensures { IfOk result (λ text. text.items ≡ up_text 0) }
 {

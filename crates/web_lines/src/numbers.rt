@@ -1,4 +1,4 @@
-//! What a line says of a station or an event.
+//! What a line says about a station or an event.
 ghost use Rattle.std.specs.Prelude.{◌≡◌, IfOk, codes, option_map, string_bytes};
 ghost use Rattle.std.specs.List.{find};
 ghost use Rattle.json.specs.Value.{value_view};
@@ -14,7 +14,7 @@ use json::{Error, Scratch, Value};
 use station_names::member;
 use std::alloc::{AllocError, Global};
 
-/// The number of an event; none where the line is no JSON object with a number.
+/// The number of an event; none if the line isn't a JSON object with a number.
 pub fn event_number(alloc: Global, line: &str) -> Result<Option<u64>, AllocError>
     ensures { IfOk result (IsNumberIn (codes "number") line.now) }
 {
@@ -27,7 +27,7 @@ pub fn event_number(alloc: Global, line: &str) -> Result<Option<u64>, AllocError
     }
 }
 
-/// The moment at which a station started, as the entity's line of a status says it; none where no line does.
+/// The moment at which a station started, as the entity's line of a status says it; none if no line does.
 pub fn start_moment(alloc: Global, status: &str) -> Result<Option<String>, AllocError>
     ensures { IfOk result (λ moment. IsStartOf status.now (option_map string_bytes moment)) }
 {

@@ -1,4 +1,4 @@
-//! Where numbers and labels stand in lines.
+//! Where numbers and labels are in lines.
 ghost use Rattle.std.specs.Prelude.{◌≡◌, None, codes, option_map, option_and_then};
 ghost use Rattle.json.specs.Find.{as_bool, get};
 ghost use Rattle.json.specs.Value.{value_view};
@@ -10,14 +10,14 @@ use crate::labels::{Label, Labels};
 use json::Value;
 use station_names::member;
 
-/// Where a number stands in a line.
+/// Where a number is in a line.
 #[derive(Clone, Copy, Debug)]
 pub(crate) enum Place {
     /// A member.
     Member(&'static str),
     /// A member of the member `counters`.
     Counted(&'static str),
-    /// A member that is true or false: 1 where it is true.
+    /// A member that is true or false: 1 if it is true.
     Truth(&'static str),
     /// A member that is there: 1.
     Known(&'static str),
@@ -87,7 +87,7 @@ fn known_in(value: &Value<'_>, name: &str) -> Option<u64>
     }
 }
 
-/// The labels of the number at a place of a line. Where the line lacks what they say, it has no number.
+/// The labels of the number at a place of a line. If the line lacks what they say, it has no number.
 pub(crate) fn labels_in<'a>(value: &Value<'a>, kind: Kind, place: Place) -> Option<Labels<'a>>
     ensures { option_map said_labels result ≡ labels_at kind (spot_of place) (value_view value.now) }
 {

@@ -25,7 +25,7 @@ pub(crate) fn push_told(
     push_families(alloc, text, lines, TOLD.as_slice())
 }
 
-/// Adds the families of a station that counts, where the lines are those of one.
+/// Adds the families of a station that counts, if the lines are those of one.
 pub(crate) fn push_told_counts(
     alloc: Global,
     text: &mut Vec<u8>,

@@ -7,7 +7,7 @@ use crate::place::Place;
 use crate::place::Place::{Counted, Known, Member, Truth};
 use station_names::member;
 
-/// A family, the kind of the lines that have its numbers, and where they stand there.
+/// A family, the kind of the lines that have its numbers, and where they are there.
 #[derive(Clone, Copy, Debug)]
 pub(crate) struct Told(pub(crate) Family, pub(crate) Kind, pub(crate) Place);
 

@@ -1,4 +1,4 @@
-//! The service: each request's answer.
+//! The service: the response to each request.
 ghost use Rattle.std.specs.Prelude.{◌≡◌, ◌⊎◌, [], OnOk};
 ghost use Rattle.http.specs.Request.{body_of};
 ghost use Rattle.http_server.specs.Response.{IsBlank, fields_of};
@@ -23,7 +23,7 @@ use std::alloc::{AllocError, Global};
 #[derive(Debug, Drop)]
 pub struct Settings {
     pub names: Names,
-    /// The word that a command has to bring in the header `X-Console-Token`, where commands are taken at all.
+    /// The word that a command has to bring in the header `X-Console-Token`, if commands are taken at all.
     pub token: Option<Vec<u8>>,
 }
 
@@ -36,7 +36,7 @@ pub struct Console<'a, S: Source> {
 }
 
 impl<'a, S: Source> Console<'a, S> {
-    /// The console with these settings, which answers what the source has.
+    /// The console with these settings, which responds with what the source has.
     pub fn new(alloc: Global, settings: &'a Settings, source: &'a S) -> Console<'a, S>
         ensures settings { settings_of result ≡ settings.now }
         ensures source { source_of result ≡ source.now }

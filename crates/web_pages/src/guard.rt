@@ -16,7 +16,7 @@ pub struct Names {
     pub second: Vec<u8>,
 }
 
-/// What is to be done with a request that is for the console.
+/// What is to be done with a request for the console.
 #[derive(Clone, Copy, Debug, PartialEq, Eq)]
 pub(crate) enum Verdict {
     /// It reads.
@@ -88,7 +88,7 @@ pub(crate) fn is_for(names: &Names, request: &Request<Bytes>) -> bool
     }
 }
 
-/// What is to be done with a request that is for the console.
+/// What is to be done with a request for the console.
 pub(crate) fn judge(request: &Request<Bytes>) -> Verdict
     ensures { IsJudged result request.now }
 {

@@ -9,7 +9,7 @@ use http::{HeaderValue, header};
 use http_server::Response;
 use std::alloc::AllocError;
 
-/// Nothing comes from elsewhere, and of what stands in the page only its own style and script are used, by their hashes.
+/// Nothing comes from elsewhere, and of what is in the page only its own style and script are used, by their hashes.
 pub(crate) const POLICY: &str =
     "default-src 'none'; style-src 'sha256-Lzf7JTnxnIDEUIw3OHrUzuC8DltfP6jqIkHItBoWiWc='; script-src 'sha256-3qSof1T96Nru4yO9K5xBpb2jOv58q0TCUYjrkdozBNo='; connect-src 'self'; base-uri 'none'; form-action 'none'; frame-ancestors 'none'";
 

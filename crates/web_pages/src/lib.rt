@@ -1,4 +1,4 @@
-//! What the console answers: which requests it takes, its page, its headers. Where the rest comes from is a `Source`.
+//! How the console responds: which requests it takes, its page, its headers. Where the rest comes from is a `Source`.
 #![tactic(auto)]
 
 mod command;

@@ -13,7 +13,7 @@ pub enum Route {
     Events,
     /// Numbers for Prometheus: `/metrics`.
     Metrics,
-    /// Whether the station answers: `/healthz`.
+    /// Whether the station replies: `/healthz`.
     Health,
     /// Where commands go: `/command`.
     Command,

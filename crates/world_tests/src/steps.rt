@@ -13,13 +13,13 @@ use pdu_values::Pdu;
 use std::alloc::Global;
 use txn_events::{Event, What};
 
-/// The transaction that is received.
+/// The received transaction.
 pub(crate) const RECEIVED: TxnKey = TxnKey {
     source: EntityId(1),
     seq: 5,
 };
 
-/// The transaction that is sent.
+/// The sent transaction.
 pub(crate) const SENT: TxnKey = TxnKey {
     source: EntityId(2),
     seq: 4,
@@ -114,7 +114,7 @@ pub(crate) fn is_file(image: &Image) -> bool {
     has(image, b"a", b"b", b"abc")
 }
 
-/// The PDU that is given in hex.
+/// The PDU given in hex.
 pub(crate) fn pdu_of(alloc: Global, hex: &str) -> Option<Pdu> {
     let octets = hex::decode(alloc, hex).ok()?;
     decode(alloc, octets.as_slice()).ok()

@@ -23,7 +23,7 @@ fn receive_one(alloc: Global, offset: u32) -> Result<u64, Fault> {
     Ok(indications as u64)
 }
 
-/// Receives an octet at this offset so many times, each in a reception of its own, and counts the indications.
+/// Receives an octet at this offset so many times, each in its own reception, and counts the indications.
 pub(crate) fn receive(alloc: Global, offset: u32, times: u32) -> Result<u64, Fault> {
     let mut indications = 0u64;
     for _ in 0..times {

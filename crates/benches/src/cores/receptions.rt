@@ -16,7 +16,7 @@ const SEGMENT: u32 = 256;
 pub(crate) enum Order {
     Rising,
     Falling,
-    /// Scattered: each place once, where the count is no multiple of 5 or 7.
+    /// Scattered: each place once, if the count isn't a multiple of 5 or 7.
     Mixed,
 }
 
@@ -34,16 +34,16 @@ impl Order {
     }
 }
 
-/// What comes behind the Metadata of a file of so many parts.
+/// What comes after the Metadata of a file of so many parts.
 #[derive(Clone, Copy)]
 pub(crate) enum Coming {
-    /// The segments in order, and the EOF behind them.
+    /// The segments in order, and the EOF after them.
     EofLast,
     /// The EOF, and the segments in an order.
     EofFirst(Order),
     /// One octet at every second offset, the last first.
     SingleOctets,
-    /// One octet behind each gap of one octet, and a Prompt for a NAK behind each.
+    /// One octet after each gap of one octet, and a Prompt for a NAK after each.
     Prompts,
 }
 
@@ -158,7 +158,7 @@ fn received(alloc: Global, file: &[u8], coming: Coming, count: u32) -> Result<u6
     take_all(alloc, &mut core, file, coming, count)
 }
 
-/// Receives what comes of a file, and counts the PDUs that are sent.
+/// Receives what comes of a file, and counts the sent PDUs.
 pub(crate) fn receive(alloc: Global, coming: Coming, count: u32) -> Result<u64, Fault> {
     let file = file_of(alloc, coming.size(count))?;
     received(alloc, file.as_slice(), coming, count)

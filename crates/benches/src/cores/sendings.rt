@@ -8,7 +8,7 @@ use sender_core::SenderCore;
 use std::alloc::Global;
 use txn_events::What;
 
-/// Octets of the file that is sent.
+/// Octets of the sent file.
 const FILE: u32 = 4 * 1024 * 1024;
 
 /// Octets of a segment.
@@ -82,7 +82,7 @@ fn send(core: &mut SenderCore, segments: u32) -> Result<u64, Fault> {
     Ok(u64::from(segments))
 }
 
-/// A file of so many segments that is sent once.
+/// A file of so many segments, sent once.
 pub(crate) fn file(alloc: Global, segments: u32) -> Result<u64, Fault> {
     let mut core = opened(alloc, segments.saturating_mul(SEGMENT))?;
     send(&mut core, segments)

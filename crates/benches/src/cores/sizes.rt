@@ -1,4 +1,4 @@
-//! Sizes of the values that are passed on for each datagram.
+//! Sizes of the values passed on for each datagram.
 use indications::Indication;
 use lane_table::Refused;
 use pdu_codec::Pdu;

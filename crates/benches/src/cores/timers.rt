@@ -1,4 +1,4 @@
-//! Timers that are armed again and again.
+//! Timers armed again and again.
 use crate::fault::Fault;
 use cfdp_types::{EntityId, TimerKind, TimerOp, TxnKey};
 use std::alloc::{AllocError, Global};

@@ -1,4 +1,4 @@
-//! Threads that deliver, each to a lane of its own.
+//! Threads that deliver, each to its own lane.
 ghost use Rattle.shared_entity.specs.Opening.{AreQueuesFor};
 
 use crate::entities::datagrams::{given_up, metadata, part};
@@ -116,7 +116,7 @@ fn deliver_all<N: Names + Send + Sync, R: Threads + Wait + Copy + Send + Sync>(
     sum_of(all.as_slice())
 }
 
-/// Delivers, and tells how many datagrams were taken.
+/// Delivers, and returns how many datagrams were taken.
 pub(crate) fn come<R: Threads + Wait + Copy + Send + Sync>(
     rt: R,
     alloc: Global,

@@ -9,7 +9,7 @@ use std::alloc::{AllocError, Global};
 // How many a progress may be.
 const PROGRESSES: u64 = 4_294_967_296;
 
-/// The only bundle of the transaction with a number, which its progress tells too.
+/// The only bundle of the transaction with a number, which is also its progress.
 pub(crate) fn bundle_of(alloc: Global, lane: usize, seq: u64) -> Result<Bundle, AllocError>
     ensures { IfOk result (λ bundle. IsOver bundle lane seq) }
 {
