@@ -2,7 +2,7 @@
 use Rattle.std.proofs.Common.{◌≡◌, true, false, [], ◌∷◌, map, refl, arith}
 use Rattle.program_seats.specs.declared.outbox.Way.TheVariants.{Open}
 use Rattle.program_seats.specs.declared.seat.Given.TheVariants.{Taken, Dropped, Gone}
-use Rattle.program_seats.specs.Seating.{SeatValue, IsAnswered, IsTold, cut, followed, free_seat, is_here, is_spare_seat, is_watchers_seat, left, may_sit, sat}
+use Rattle.program_seats.specs.Seating.{SeatValue, IsAnswered, IsTold, after_writing, behind, cut, followed, free_seat, is_here, is_spare_seat, is_watchers_seat, left, may_sit, sat, taken}
 
 -- the third client of a seat, who has asked
 abbrev third : SeatValue
@@ -29,14 +29,34 @@ late_follow : followed 2 third ≡ third
 late_follow = refl
 
 -- a seat is taken until its client leaves, and the next one doesn't follow
-taken : may_sit third ≡ false
-taken = refl
+is_taken : may_sit third ≡ false
+is_taken = refl
 
 free_again : may_sit (left third) ≡ true
 free_again = refl
 
 next_reads_no_events : (sat (left (followed 3 third))).follows ≡ false
 next_reads_no_events = refl
+
+-- a client that follows lacks what is being written and what waits; one that doesn't follow isn't behind
+abbrev reader : SeatValue
+reader = record (followed 3 third) { under_way = 5; outbox = record { waiting = 7 ∷ 8 ∷ []; way = Open } }
+
+reader_is_behind : map behind (reader ∷ taken reader ∷ after_writing 3 4 reader ∷ after_writing 2 4 reader ∷ []) ≡ 7 ∷ 2 ∷ 3 ∷ 7 ∷ []
+reader_is_behind = refl
+
+no_reader_is_not : behind (record reader { follows = false }) ≡ 0
+no_reader_is_not = refl
+
+-- what the client before didn't get is forgotten, and what was written to it is not
+next_lacks_nothing : (sat (left (after_writing 3 4 reader))).under_way ≡ 0
+next_lacks_nothing = refl
+
+cut_lacks_nothing : behind (cut reader) ≡ 0
+cut_lacks_nothing = refl
+
+written_stays : (sat (left (after_writing 3 4 reader))).written ≡ 4
+written_stays = refl
 
 left_is_gone : is_here 3 (left third) ≡ false
 left_is_gone = refl

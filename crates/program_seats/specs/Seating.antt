@@ -1,5 +1,5 @@
 -- Meaning. A seat for one client, and what each call does to it.
-use Rattle.std.specs.Prelude.{◌≡◌, ◌≢◌, ◌⊎◌, ◌+◌, ◌++◌, ◌==◌, ◌&&◌, ◌||◌, ◌≤◌, ℕ, nat_lt, Bool, true, false, if◌then◌else◌, List, length, not}
+use Rattle.std.specs.Prelude.{◌≡◌, ◌≢◌, ◌⊎◌, ◌+◌, ◌-◌, ◌++◌, ◌==◌, ◌&&◌, ◌||◌, ◌≤◌, ℕ, min, nat_lt, Bool, true, false, if◌then◌else◌, List, [], length, not}
 use Rattle.program_seats.specs.Outboxes.{OutboxValue, cut_off, empty, ended}
 use Rattle.program_seats.specs.declared.outbox.Way.{Way}
 use Rattle.program_seats.specs.declared.outbox.Way.TheVariants.{Open}
@@ -7,7 +7,8 @@ use Rattle.program_seats.specs.declared.seat.Given.{Given}
 use Rattle.program_seats.specs.declared.seat.Given.TheVariants.{Taken, Dropped, Gone}
 
 -- how many clients have sat there; whether one sits there, follows events, and awaits an answer; whether nobody may sit
--- down any more; what is on its way to the client
+-- down any more; what waits for the client; how many octets that were taken for it aren't written yet, and how many
+-- were written to all clients of the seat
 pub record SeatValue : Type 0 where
   pub visits : ℕ
   pub is_taken : Bool
@@ -15,6 +16,8 @@ pub record SeatValue : Type 0 where
   pub is_asking : Bool
   pub is_closed : Bool
   pub outbox : OutboxValue
+  pub under_way : ℕ
+  pub written : ℕ
 
 -- the spare seat comes after the sixteen, and then those of clients that only watch
 abbrev pub is_spare_seat : ℕ → Bool
@@ -25,7 +28,7 @@ is_watchers_seat seat = nat_lt 16 seat
 
 -- nobody has sat there
 abbrev pub free_seat : SeatValue
-free_seat = record { visits = 0; is_taken = false; follows = false; is_asking = false; is_closed = false; outbox = empty }
+free_seat = record { visits = 0; is_taken = false; follows = false; is_asking = false; is_closed = false; outbox = empty; under_way = 0; written = 0 }
 
 -- a visit lasts
 abbrev pub is_here : ℕ → SeatValue → Bool
@@ -35,13 +38,14 @@ is_here visit seat = seat.is_taken && (seat.visits == visit)
 abbrev pub may_sit : SeatValue → Bool
 may_sit seat = not (seat.is_closed || seat.is_taken)
 
--- how many octets wait for a client that follows events and still takes some
+-- how many octets a client that follows events hasn't got: those being written, and those that wait if it takes more
+-- text
 abbrev pub behind : SeatValue → ℕ
 behind seat = if seat.follows then by_way seat.outbox.way else 0
   where
     by_way : Way → ℕ
-    by_way Open = length seat.outbox.waiting
-    by_way way = 0
+    by_way Open = min (seat.under_way + length seat.outbox.waiting) 18446744073709551615
+    by_way way = seat.under_way
 
 -- the next client has sat down, with nothing of the one before
 abbrev pub sat : SeatValue → SeatValue
@@ -51,11 +55,12 @@ sat seat = record seat {
   follows = false;
   is_asking = false;
   outbox = empty;
+  under_way = 0;
 }
 
 -- the client is cut off: nothing is on its way to it any more
 abbrev pub cut : SeatValue → SeatValue
-cut seat = record seat { is_asking = false; outbox = cut_off }
+cut seat = record seat { is_asking = false; outbox = cut_off; under_way = 0 }
 
 -- nothing more is read from the client, and what waits for it is still sent
 abbrev pub closing : SeatValue → SeatValue
@@ -63,7 +68,7 @@ closing seat = record seat { is_asking = false; outbox = ended seat.outbox }
 
 -- the client has left
 abbrev pub left : SeatValue → SeatValue
-left seat = record seat { is_taken = false; follows = false; is_asking = false; outbox = cut_off }
+left seat = record seat { is_taken = false; follows = false; is_asking = false; outbox = cut_off; under_way = 0 }
 
 -- the client has asked, and will be answered if its way is open
 abbrev pub asked : ℕ → SeatValue → Bool → SeatValue → Type 0
@@ -75,6 +80,17 @@ asked visit old false new =
 -- events are sent to the client, too, if the visit lasts
 abbrev pub followed : ℕ → SeatValue → SeatValue
 followed visit seat = if is_here visit seat then record seat { follows = true } else seat
+
+-- what waited was taken, to be written
+abbrev pub taken : SeatValue → SeatValue
+taken seat = record seat { outbox = record { waiting = []; way = seat.outbox.way }; under_way = length seat.outbox.waiting }
+
+-- so many of the octets that were taken for a visit are written
+abbrev pub after_writing : ℕ → ℕ → SeatValue → SeatValue
+after_writing visit octets seat =
+    if is_here visit seat
+    then record seat { under_way = seat.under_way - octets; written = min (seat.written + octets) 18446744073709551615 }
+    else seat
 
 -- ---- texts
 

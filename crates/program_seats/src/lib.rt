@@ -10,4 +10,4 @@ mod seats;
 pub use asker::Asker;
 pub use outbox::{Outbox, RESERVED_OCTETS, Way};
 pub use seat::{Given, Seat};
-pub use seats::{LAST_MS, Lag, PLACES, SEATS, STREAMS, Seats, TEXT_OCTETS, WATCHERS};
+pub use seats::{LAST_MS, PLACES, SEATS, STREAMS, Seats, TEXT_OCTETS, WATCHERS};

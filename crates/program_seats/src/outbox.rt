@@ -5,17 +5,17 @@ use std::alloc::{AllocError, Global};
 use std::marker::Model;
 use std::mem;
 
-/// For how many octets to one client memory is reserved, so that a short reply needs none.
+/// How many octets of memory are reserved for text to one client, so that a short reply needs no more.
 pub const RESERVED_OCTETS: usize = 4_096;
 
 /// Whether text can still be sent to a client.
 #[derive(Clone, Copy, Debug, PartialEq, Eq)]
 pub enum Way {
-    /// More text is taken.
+    /// Takes more text.
     Open,
-    /// The text that waits is still sent, and no more is taken.
+    /// Takes no more text. What waits is still sent.
     Ending,
-    /// Nothing is sent any more.
+    /// Sends nothing more.
     Cut,
 }
 
@@ -57,7 +57,7 @@ impl<const ROOM: usize> Outbox<ROOM> {
         self.pending.reserve(RESERVED_OCTETS)
     }
 
-    /// Drops what waited, and opens the way again. The memory that was reserved stays.
+    /// Drops what waited, and opens the way again. The reserved memory stays.
     pub fn reopen(&mut self)
         ensures { self.new ≡ empty }
     {
@@ -88,8 +88,8 @@ impl<const ROOM: usize> Outbox<ROOM> {
         self.pending.is_empty()
     }
 
-    /// Appends a text to what waits; returns whether it was taken. If an open way has no room or memory for it, the way
-    /// is cut and what waited is dropped.
+    /// Appends a text to what waits, and returns whether it was taken. If an open way has no room or memory for it, the
+    /// way is cut and what waited is dropped.
     pub fn put(&mut self, text: &[u8]) -> bool
         ensures { IsPut ROOM text.now self.old result self.new }
     {

@@ -1,6 +1,6 @@
 //! The state of one seat.
 ghost use Rattle.std.specs.Prelude.{◌≡◌, ◌↔◌, ◌⊎◌, [], IfSome, IfNone, IsFalse, false, true};
-ghost use Rattle.program_seats.specs.Seating.{IsAnswered, IsSent, IsSentTo, IsTold, asked, behind, closing, cut, followed, free_seat, is_here, left, may_sit, sat};
+ghost use Rattle.program_seats.specs.Seating.{IsAnswered, IsSent, IsSentTo, IsTold, after_writing, asked, behind, closing, cut, followed, free_seat, is_here, left, may_sit, sat, taken};
 
 use crate::outbox::{Outbox, Way};
 use std::alloc::{AllocError, Global};
@@ -15,7 +15,7 @@ pub enum Given {
     Taken,
     /// There was no room or no memory for it, and the client was cut off.
     Dropped,
-    /// The client has left or takes no more. Nothing happened.
+    /// The client has left, takes no more text, or doesn't follow events. Nothing happened.
     Gone,
 }
 
@@ -33,6 +33,10 @@ pub struct Seat<const ROOM: usize> {
     /// Whether nobody may sit down any more.
     is_closed: bool,
     outbox: Outbox<ROOM>,
+    /// How many of the octets that were taken for the client aren't written yet.
+    under_way: u64,
+    /// How many octets were written to the clients of the seat.
+    written: u64,
 }
 
 impl<const ROOM: usize> Model for Seat<ROOM> {
@@ -48,6 +52,8 @@ impl<const ROOM: usize> Model for Seat<ROOM> {
       is_asking = s.is_asking;
       is_closed = s.is_closed;
       outbox = s.outbox;
+      under_way = s.under_way;
+      written = s.written;
     } };
 }
 
@@ -63,6 +69,8 @@ impl<const ROOM: usize> Seat<ROOM> {
             is_asking: false,
             is_closed: false,
             outbox: Outbox::new(alloc),
+            under_way: 0,
+            written: 0,
         }
     }
 
@@ -73,15 +81,26 @@ impl<const ROOM: usize> Seat<ROOM> {
         self.outbox.reserve()
     }
 
-    /// How many octets wait for a client that follows events, and is neither cut off nor leaving.
-    pub fn behind(&self) -> usize
+    /// How many octets a client that follows events hasn't got: those being written to it, and unless it is leaving,
+    /// those that wait for it. 0 for a client that doesn't follow, or is cut off.
+    pub fn behind(&self) -> u64
         ensures { result ≡ behind self.now }
     {
-        if self.follows && self.outbox.way() == Way::Open {
-            self.outbox.waiting()
-        } else {
-            0
+        if !self.follows {
+            return 0;
         }
+        if self.outbox.way() == Way::Open {
+            self.under_way.saturating_add(self.outbox.waiting() as u64)
+        } else {
+            self.under_way
+        }
+    }
+
+    /// How many octets were written to the clients of the seat.
+    pub fn written(&self) -> u64
+        ensures { result ≡ self.now.written }
+    {
+        self.written
     }
 
     /// Whether a client sits here.
@@ -133,8 +152,8 @@ impl<const ROOM: usize> Seat<ROOM> {
         !(self.is_closed || self.stream.is_some())
     }
 
-    /// Lets a client sit down, with nothing of the one before, and returns the visit's number; none if the seat is
-    /// taken or closed, or the visit numbers are used up.
+    /// Lets a client sit down, with nothing left of the one before. Returns the visit's number, or `None` if the seat
+    /// is taken or closed, or the visit numbers are used up.
     pub fn sit(&mut self, stream: UnixStream) -> Option<u64>
         ensures number { IfSome result (λ visit. visit ≡ self.new.visits) }
         ensures was_free { IfSome result (λ _. may_sit self.old ≡ true) }
@@ -150,10 +169,11 @@ impl<const ROOM: usize> Seat<ROOM> {
         self.follows = false;
         self.is_asking = false;
         self.outbox.reopen();
+        self.under_way = 0;
         Some(self.visits)
     }
 
-    /// Notes that a visit's command will await its reply; false if the client has left or takes no more text.
+    /// Notes that a visit's command will await its reply. Returns false if the client has left or takes no more text.
     pub fn ask(&mut self, visit: u64) -> bool
         ensures { asked visit self.old result self.new }
     {
@@ -218,12 +238,24 @@ impl<const ROOM: usize> Seat<ROOM> {
         }
     }
 
-    /// Moves what waits into `texts`, in place of its content.
+    /// Moves what waits into `texts`, in place of its content, to be written. What was taken before is no longer under
+    /// way.
     pub fn take(&mut self, texts: &mut Vec<u8>)
         ensures given { texts.new.items ≡ self.old.outbox.waiting }
-        ensures rest { self.new ≡ record self.old { outbox = record { waiting = []; way = self.old.outbox.way } } }
+        ensures rest { self.new ≡ taken self.old }
     {
         self.outbox.take(texts);
+        self.under_way = texts.len() as u64;
+    }
+
+    /// Notes that so many of the octets that were taken for a visit are written.
+    pub fn note_written(&mut self, visit: u64, octets: u64)
+        ensures { self.new ≡ after_writing visit octets self.old }
+    {
+        if self.is_here(visit) {
+            self.under_way = self.under_way.saturating_sub(octets);
+            self.written = self.written.saturating_add(octets);
+        }
     }
 
     /// Whether something waits to be sent.
@@ -239,6 +271,7 @@ impl<const ROOM: usize> Seat<ROOM> {
     {
         self.outbox.cut();
         self.is_asking = false;
+        self.under_way = 0;
         self.shut(Shutdown::Both);
     }
 
@@ -273,5 +306,6 @@ impl<const ROOM: usize> Seat<ROOM> {
         self.stream = None;
         self.follows = false;
         self.is_asking = false;
+        self.under_way = 0;
     }
 }

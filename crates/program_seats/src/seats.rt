@@ -11,32 +11,24 @@ use std::sync::atomic::{AtomicU64, AtomicUsize, Ordering};
 use std::sync::{Condvar, CondvarTimeouts, Mutex, Wait};
 use std::time::{Clock, Duration};
 
-/// How many clients are served at once, but for one that comes while all seats are taken.
+/// How many clients are served at once. One more gets the spare seat while all of these are taken.
 pub const SEATS: usize = 16;
 
-/// How many clients that only watch are served at once, beside those.
+/// How many clients that only watch are served at once, besides those.
 pub const WATCHERS: usize = 4;
 
-/// The seats, a spare one, and those of clients that only watch.
+/// How many places there are: the seats, a spare one, and those of clients that only watch.
 pub const PLACES: usize = SEATS + 1 + WATCHERS;
 
 /// How many octets may wait for one client.
 pub const TEXT_OCTETS: usize = 8 * 1024 * 1024;
 
-/// How many streams of events there are. A client that follows gets one of them: which events of each is the caller's affair.
+/// How many streams of events there are. A client that follows gets one of them. The caller decides which events each
+/// stream has.
 pub const STREAMS: usize = 4;
 
-// From how many octets on that it hasn't taken a client is behind.
+// A client that follows events is behind if more octets than this wait for it or are being written to it.
 const BEHIND_OCTETS: u64 = 1024 * 1024;
-
-/// How far a client that follows events is behind.
-#[derive(Clone, Copy, Debug, PartialEq, Eq)]
-pub struct Lag {
-    /// How many octets it hasn't taken.
-    pub octets: u64,
-    /// How many octets were written at its seat so far.
-    pub written: u64,
-}
 
 /// How many milliseconds the clients have at the end to take what waits for them.
 pub const LAST_MS: u64 = 200;
@@ -48,9 +40,6 @@ struct Place {
     changed: Condvar,
     /// Which stream the client gets, if it follows events.
     stream: AtomicUsize,
-    /// How many octets were given out for clients that sat here, and how many of them were written.
-    given_out: AtomicU64,
-    written: AtomicU64,
 }
 
 /// The seats of clients. The thread that replies never waits for a client. Each change of a seat is made by a method of
@@ -72,8 +61,6 @@ impl Seats {
                 seat: Mutex::new(seat),
                 changed: Condvar::new(),
                 stream: AtomicUsize::new(0),
-                given_out: AtomicU64::new(0),
-                written: AtomicU64::new(0),
             })?;
         }
         Ok(Seats {
@@ -102,31 +89,32 @@ impl Seats {
         let _before = self.dropped.fetch_add(1, Ordering::Relaxed);
     }
 
-    /// Whether a client has the spare seat, so that it may give one command alone.
+    /// Whether a client has the spare seat, so that it may give only one command.
     pub fn is_spare(asker: Asker) -> bool
         ensures { result ≡ is_spare_seat asker.seat }
     {
         asker.seat == SEATS
     }
 
-    /// Whether a client has a seat of those that only watch.
+    /// Whether a client has one of the seats for clients that only watch.
     pub fn is_watching(asker: Asker) -> bool
         ensures { result ≡ is_watchers_seat asker.seat }
     {
         is_watchers_seat(asker.seat)
     }
 
-    /// Lets a client sit down, if a seat is free; the spare one comes last. The stream is a second handle of the client's.
+    /// Lets a client sit down, if a seat is free; the spare one comes last. The seat keeps a second handle of the
+    /// stream. `None` also if that handle can't be made, or the seat's visit numbers are used up.
     pub fn sit<R: Wait>(&self, rt: &R, stream: &UnixStream) -> Option<Asker> {
         self.sit_among(rt, stream, false)
     }
 
-    /// Lets a client that only watches sit down, if one of the seats for those is free.
+    /// Lets a client that only watches sit down likewise, if one of the seats for such clients is free.
     pub fn sit_watching<R: Wait>(&self, rt: &R, stream: &UnixStream) -> Option<Asker> {
         self.sit_among(rt, stream, true)
     }
 
-    // Lets a client sit down at a free seat of those that only watch, or of the others.
+    // Lets a client sit down at a free seat: one for clients that only watch, or one of the others.
     fn sit_among<R: Wait>(&self, rt: &R, stream: &UnixStream, watches: bool) -> Option<Asker> {
         for (number, place) in self.places.iter().enumerate() {
             if is_watchers_seat(number) != watches {
@@ -158,7 +146,8 @@ impl Seats {
         }
     }
 
-    /// Notes that the client's command is about to be left at the desk; false if the client has left or takes no more.
+    /// Notes that the client's command is about to be left at the desk. Returns false if the client has left or takes
+    /// no more text.
     pub fn ask<R: Wait>(&self, rt: &R, asker: Asker) -> bool {
         match self.places.get(asker.seat) {
             Some(place) => {
@@ -199,8 +188,8 @@ impl Seats {
         given == Given::Taken
     }
 
-    /// Answers a client's command; false if the client has left, or was cut off because there was no room for the
-    /// answer.
+    /// Replies to a client's command. Returns false if the client has left or takes no more text, or if it was cut off
+    /// because there was no room or memory for the reply.
     pub fn answer<R: Wait>(&self, rt: &R, asker: Asker, text: &[u8]) -> bool {
         match self.places.get(asker.seat) {
             Some(place) => {
@@ -256,7 +245,7 @@ impl Seats {
         }
     }
 
-    /// Whether a client has taken all text that was sent to it; none if it has left, or takes no more.
+    /// Whether no text waits for a client; some may still be being written to it. `None` if it has left or takes no more.
     pub fn has_taken<R: Wait>(&self, rt: &R, asker: Asker) -> Option<bool> {
         let seat = self.places.get(asker.seat)?.seat.lock(rt);
         if seat.is_here(asker.visit) && seat.way() == Way::Open {
@@ -266,7 +255,7 @@ impl Seats {
         }
     }
 
-    /// Waits for text to send, and moves it into `texts` in place of its content; false if no more will come.
+    /// Waits for text to send, and moves it into `texts` in place of its content. Returns false if no more will come.
     pub fn take<R: Wait>(&self, rt: &R, asker: Asker, texts: &mut Vec<u8>) -> bool {
         let Some(place) = self.places.get(asker.seat) else {
             return false;
@@ -278,9 +267,6 @@ impl Seats {
             }
             if seat.has_text() {
                 seat.take(texts);
-                let _before = place
-                    .given_out
-                    .fetch_add(texts.len() as u64, Ordering::Relaxed);
                 return true;
             }
             if seat.way() == Way::Ending {
@@ -292,22 +278,19 @@ impl Seats {
     }
 
     /// Notes that so many octets were written to the client.
-    pub fn note_written(&self, asker: Asker, octets: usize) {
+    pub fn note_written<R: Wait>(&self, rt: &R, asker: Asker, octets: usize) {
         if let Some(place) = self.places.get(asker.seat) {
-            let _before = place.written.fetch_add(octets as u64, Ordering::Relaxed);
+            let mut seat = place.seat.lock(rt);
+            seat.note_written(asker.visit, octets as u64);
         }
     }
 
-    /// How far the client at a seat is behind, if it follows events and more than `BEHIND_OCTETS` wait for it or are being written.
-    pub fn lag<R: Wait>(&self, rt: &R, seat: usize) -> Option<Lag> {
-        let place = self.places.get(seat)?;
-        let waiting = place.seat.lock(rt).behind();
-        let written = place.written.load(Ordering::Relaxed);
-        let given_out = place.given_out.load(Ordering::Relaxed);
-        let under_way = given_out.saturating_sub(written);
-        let octets = under_way.saturating_add(waiting as u64);
-        if octets > BEHIND_OCTETS {
-            Some(Lag { octets, written })
+    /// How many octets were written so far to the clients of a seat, if the client there follows events and lacks more
+    /// than `BEHIND_OCTETS`.
+    pub fn written_if_behind<R: Wait>(&self, rt: &R, seat: usize) -> Option<u64> {
+        let seat = self.places.get(seat)?.seat.lock(rt);
+        if seat.behind() > BEHIND_OCTETS {
+            Some(seat.written())
         } else {
             None
         }

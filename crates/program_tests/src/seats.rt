@@ -1,4 +1,4 @@
-use program_seats::{Asker, STREAMS, Seats};
+use program_seats::{Asker, STREAMS, Seats, TEXT_OCTETS};
 use std::alloc::Global;
 use std::sync::Wait;
 use std::test::*;
@@ -17,10 +17,11 @@ fn is_nobody<R: Wait>(rt: &R, alloc: Global, seats: &Seats, asker: Asker) -> boo
         && !seats.wait_answer(rt, asker)
         && !seats.answer(rt, asker, b"ok\n")
         && !seats.take(rt, asker, &mut Vec::new(alloc));
+    seats.note_written(rt, asker, TEXT_OCTETS);
     seats.end(rt, asker);
     seats.cut(rt, asker);
     seats.leave(rt, asker);
-    is_alone
+    is_alone && seats.written_if_behind(rt, asker.seat).is_none()
 }
 
 // Nobody follows at a free seat, and nobody may sit down once the seats are closed.

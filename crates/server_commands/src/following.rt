@@ -1,6 +1,5 @@
 //! Keeps the pace of clients that follow.
 use crate::commands::Server;
-use program_seats::Lag;
 use shared_lanes::Names;
 use std::rt::Files;
 use std::sync::Wait;
@@ -12,11 +11,11 @@ const PATIENCE_MS: u64 = 2_000;
 // For how many milliseconds they wait for one that takes nothing.
 const STALL_MS: u64 = 500;
 
-// How long after a wait for a client began the next one for it may begin, in milliseconds.
+// How many milliseconds after the beginning of a wait for a client the next one for it may begin.
 const PAUSE_MS: u64 = 20_000;
 
-/// What is known of the client at a seat: when bundles began to wait for it, how far it was written to, and when it took something
-/// last.
+/// What is known of the client at a seat: when bundles began to wait for it, how far it was written to, and when it
+/// took something last.
 #[derive(Clone, Copy)]
 pub struct Spell {
     since: u64,
@@ -25,9 +24,8 @@ pub struct Spell {
 }
 
 impl Spell {
-    // What is known at a moment, where a client is behind.
-    fn at(before: Option<Spell>, lag: Lag, now: u64) -> Spell {
-        let written = lag.written;
+    // What is known at a moment of a client that is behind, and to whose seat so many octets were written.
+    fn at(before: Option<Spell>, written: u64, now: u64) -> Spell {
         match before {
             Some(before) if now.saturating_sub(before.since) < PAUSE_MS => {
                 let took_at = if before.written == written {
@@ -56,16 +54,16 @@ impl Spell {
 }
 
 impl<'a, N: Names, R: Wait + Clock + Files + AllocGlobal + Copy + Drop> Server<'a, N, R> {
-    /// Whether users' bundles wait at a moment for a client that follows, fell behind, and takes some of what waits for it: for each
-    /// client two seconds in twenty at most.
+    /// Whether users' bundles wait at a moment for a client that follows, fell behind, and takes some of what waits for
+    /// it: for the clients of each seat two seconds in twenty at most.
     pub fn waits_for_followers(&mut self, now: u64) -> bool {
         let Some(seats) = self.seats else {
             return false;
         };
         let mut waits = false;
         for (seat, spell) in self.spells.iter_mut().enumerate() {
-            if let Some(lag) = seats.lag(self.rt, seat) {
-                let next = Spell::at(*spell, lag, now);
+            if let Some(written) = seats.written_if_behind(self.rt, seat) {
+                let next = Spell::at(*spell, written, now);
                 *spell = Some(next);
                 waits = waits || next.is_waited_for(now);
             }
