@@ -28,11 +28,13 @@ indications : map level_of_indication
     ≡ Info ∷ Info ∷ Info ∷ Info ∷ Detail ∷ Info ∷ Warning ∷ Warning ∷ Info ∷ Warning ∷ []
 indications = refl
 
--- complete; not reported, as class 1 has it; not complete; canceled; rejected by the store
+-- complete; not reported, as class 1 has it; not complete; canceled; rejected by the store, with and without a fault;
+-- complete, but not kept
 ends : map level_of_indication
     (told.TransactionFinished 0 Complete Retained ∷ told.TransactionFinished 0 Incomplete Unreported ∷ told.TransactionFinished 0 Incomplete Discarded
-    ∷ told.TransactionFinished 15 Complete Retained ∷ told.TransactionFinished 4 Complete Rejected ∷ [])
-    ≡ Info ∷ Info ∷ Warning ∷ Warning ∷ Warning ∷ []
+    ∷ told.TransactionFinished 15 Complete Retained ∷ told.TransactionFinished 4 Complete Rejected
+    ∷ told.TransactionFinished 0 Complete Rejected ∷ told.TransactionFinished 0 Complete Discarded ∷ [])
+    ≡ Info ∷ Info ∷ Warning ∷ Warning ∷ Warning ∷ Warning ∷ Warning ∷ []
 ends = refl
 
 events : map level_of (event.Start ∷ event.End ∷ event.Put ∷ event.Hold ∷ event.Release ∷ event.Skipped ∷ event.Command ∷ event.Stored true ∷ [])

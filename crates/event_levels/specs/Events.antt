@@ -19,15 +19,22 @@ abbrev pub is_complete : Delivery → Bool
 is_complete Complete = true
 is_complete Incomplete = false
 
+abbrev pub is_retained : FileStatus → Bool
+is_retained Retained = true
+is_retained _ = false
+
 abbrev pub is_unreported : FileStatus → Bool
 is_unreported Unreported = true
 is_unreported _ = false
 
--- a transaction ended as it should: without a fault, and complete, or nothing is known of that where no report was asked for
+-- a transaction ended as it should: without a fault, and the file is complete and retained, or nothing is known of that
+-- where no report was asked for
 abbrev pub is_good_end : ℕ → Delivery → FileStatus → Bool
-is_good_end condition delivery status = (condition == 0) && (is_complete delivery || is_unreported status)
+is_good_end condition delivery status =
+    (condition == 0) && ((is_complete delivery && is_retained status) || is_unreported status)
 
--- a piece of a file is a detail; faults, and ends and stops of other kinds than those that users ask for, are warnings
+-- a piece of a file is a detail; faults, ends that aren't good, what is abandoned, and stops that no user asked for are
+-- warnings
 abbrev pub level_of_indication : Indication → Level
 level_of_indication (told.FileSegmentRecv offset octets) = Detail
 level_of_indication (told.TransactionFinished condition delivery status) = level_when (is_good_end condition delivery status)

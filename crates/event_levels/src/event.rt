@@ -29,7 +29,7 @@ pub enum EventKind<'a> {
     Unparked,
     /// Transaction numbers were used up without a file.
     Skipped,
-    /// A transaction was abandoned since its journal is full.
+    /// A transaction was abandoned because its journal is full.
     JournalFull,
     /// A worker stopped reading.
     ReadsEnded,
@@ -89,10 +89,12 @@ fn level_of_indication(indication: &Indication) -> Level
     }
 }
 
-// Whether a transaction ended as it should: without a fault, and complete, where the receiver says so.
+// Whether a transaction ended as it should: without a fault, and either the file is complete and retained, or the
+// receiver reports nothing.
 fn is_good_end(condition: Condition, delivery: Delivery, status: FileStatus) -> bool
     ensures { result ≡ is_good_end condition delivery status }
 {
     condition == Condition::NO_ERROR
-        && (matches!(delivery, Delivery::Complete) || matches!(status, FileStatus::Unreported))
+        && (matches!(delivery, Delivery::Complete) && matches!(status, FileStatus::Retained)
+            || matches!(status, FileStatus::Unreported))
 }

@@ -8,7 +8,7 @@ use std::alloc::AllocError;
 // The octets that end a line: a brace and a line feed.
 const END_OCTETS: usize = 2;
 
-/// Adds an event's line with its level as the last member. If memory runs out, a part may be there.
+/// Adds an event's line with its level as the last member. If memory runs out, a part of it may have been added.
 pub fn push_labelled(text: &mut Vec<u8>, line: &[u8], level: Level) -> Result<(), AllocError>
     ensures { OnOk result (text.new.items ≡ text.old.items ++ labelled level line.now) }
 {

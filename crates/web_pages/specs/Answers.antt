@@ -98,8 +98,8 @@ abbrev pub IsAt : (Route → Response → Type 0) → Option Route → Response 
 IsAt answers None response = IsRefused 404 response
 IsAt answers (Some at) response = answers at response
 
--- what a request for the console is answered: one that another site's page sends, one with a wrong target, one that reads, one
--- that posts, and one with another method
+-- what a request for the console is answered: one that another site's page sends, one with a wrong target, one that
+-- reads, one that posts, and one with another method
 abbrev pub IsAnswered : List ℕ → List ℕ → Option (List ℕ) → Shows → Tells → Request (List ℕ) → Response → Type 0
 IsAnswered policy page token shows tells request response =
     (IsFromOtherSite request × IsRefused 403 response)

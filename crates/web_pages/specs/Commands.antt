@@ -2,7 +2,7 @@
 use Rattle.std.specs.Prelude.{◌≡◌, ◌⊎◌, ◌==◌, ℕ, IsTrue, nat_le, List, Option, Some, None, take, position, codes}
 use Rattle.std.specs.List.{list_all}
 
--- the line up to where its first space stands
+-- the line up to its first space
 abbrev pub word_until : List ℕ → Option ℕ → List ℕ
 word_until line None = line
 word_until line (Some at) = take at line

@@ -17,6 +17,6 @@ route_at path =
     else (if bytes_eq path (codes "/healthz") then Some Health
     else (if bytes_eq path (codes "/command") then Some Command else None)))))
 
--- what stands at the path of a request
+-- the route at the path of a request
 abbrev pub asked_route : Request (List ℕ) → Option Route
 asked_route request = route_at (uri_path (head_of request).uri)

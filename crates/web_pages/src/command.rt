@@ -5,7 +5,7 @@ ghost use Rattle.web_pages.specs.Commands.{IsCommand, IsOfOutbox, IsOfTransactio
 
 use crate::guard::is_same;
 
-/// Whether the console passes a command on: those of transactions, of the outbox and of remotes, in one line without octets
+/// Whether the console passes a command on: those on transactions, the outbox and remotes, in one line without octets
 /// below 32. Neither `quit` nor `follow` is one.
 pub fn is_command(line: &[u8]) -> bool
     ensures { IsTrue result ↔ IsCommand line.now }
@@ -20,7 +20,7 @@ fn is_plain(line: &[u8]) -> bool
     line.iter().all(|octet| 32 <= *octet)
 }
 
-// Where the first space stands.
+// The place of the first space.
 fn space_place(line: &[u8]) -> Option<usize>
     ensures place { result ≡ position (λ octet. octet == 32) line.now }
     ensures within { IfSome result (λ at. at < length line.now) }

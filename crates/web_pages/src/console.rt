@@ -98,7 +98,7 @@ impl<'a, S: Source> Console<'a, S> {
         }
     }
 
-    // Answers what the source shows at a route.
+    // Answers with what the source shows at a route.
     fn fill(
         &self,
         request: &Request<Bytes>,
@@ -146,7 +146,7 @@ fn last_id(request: &Request<Bytes>) -> &[u8]
     }
 }
 
-// Answers the page.
+// Answers with the page.
 fn show_page(response: &mut Response) -> Result<(), AllocError>
     requires { IsBlank response.old }
     ensures { OnOk result (IsPage POLICY.now PAGE.now response.new) }
@@ -155,7 +155,7 @@ fn show_page(response: &mut Response) -> Result<(), AllocError>
     response.body.put_slice(PAGE.as_bytes())
 }
 
-// Answers a text of the source's, with the status for whether the station answered.
+// Answers with a text of the source's, and with the status for whether the station answered.
 fn give(response: &mut Response, found: Found, text: Vec<u8>) -> Result<(), AllocError>
     requires { response.old.body.items ≡ [] }
     ensures status { OnOk result (response.new.status ≡ status_of found) }
@@ -169,7 +169,7 @@ fn give(response: &mut Response, found: Found, text: Vec<u8>) -> Result<(), Allo
     response.body.push(Bytes::from_vec(text)?)
 }
 
-// Answers a status alone.
+// Answers with a status alone.
 fn refuse(response: &mut Response, status: StatusCode) -> Result<(), AllocError>
     requires { IsBlank response.old }
     ensures { OnOk result (IsRefused status response.new) }
@@ -178,7 +178,7 @@ fn refuse(response: &mut Response, status: StatusCode) -> Result<(), AllocError>
     Ok(())
 }
 
-// Answers which methods are taken instead, where anything can be asked for.
+// Answers which methods the request's route takes; 404 where there is no route.
 fn refuse_method(request: &Request<Bytes>, response: &mut Response) -> Result<(), AllocError>
     requires { IsBlank response.old }
     ensures { OnOk result (IsAt IsWrongMethod (asked_route request.now) response.new) }
@@ -206,8 +206,8 @@ impl<'a, S: Source> Service for Console<'a, S> {
     ghost use Rattle.web_pages.specs.declared.headers.TheConstants.{POLICY};
     ghost use Rattle.web_pages.specs.declared.page.TheConstants.{PAGE};
 
-    // The console stays as it is. A request that is not for one of its names gets 403, with no header and no body; any other
-    // one gets what is defined.
+    // The console stays as it is. A request that is not for one of its names gets 403, with no header and no body. Any
+    // other gets the answer that is defined for it.
     ghost answers = { λ old request response new. (new ≡ old)
         × (((¬ IsFor old.settings.now.names.first.items old.settings.now.names.second.items request) × IsRefused 403 response)
         ⊎ (IsFor old.settings.now.names.first.items old.settings.now.names.second.items request

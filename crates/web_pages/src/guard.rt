@@ -6,8 +6,8 @@ ghost use Rattle.web_pages.specs.Guard.{IsFor, IsFromOtherSite, HasPlainTarget, 
 use bytes::Bytes;
 use http::Request;
 
-/// The names by which the console is reached, as a request's `Host` has them, but for case, and for a port 80 that is left out.
-/// A page of another site that has its own name lead here is refused by it.
+/// The names by which the console is reached, as a request's `Host` has them, but for case, and for a port 80 that is
+/// left out. They let the console refuse a page of another site that has its own name lead here.
 #[derive(Debug, Drop)]
 pub struct Names {
     /// The address with its port.
@@ -16,7 +16,7 @@ pub struct Names {
     pub second: Vec<u8>,
 }
 
-/// What is to be done with a request for the console.
+/// What to do with a request for the console.
 #[derive(Clone, Copy, Debug, PartialEq, Eq)]
 pub(crate) enum Verdict {
     /// It reads.
@@ -88,7 +88,7 @@ pub(crate) fn is_for(names: &Names, request: &Request<Bytes>) -> bool
     }
 }
 
-/// What is to be done with a request for the console.
+/// What to do with a request for the console.
 pub(crate) fn judge(request: &Request<Bytes>) -> Verdict
     ensures { IsJudged result request.now }
 {

@@ -1,4 +1,4 @@
-//! How the console responds: which requests it takes, its page, its headers. Where the rest comes from is a `Source`.
+//! How the console responds: which requests it takes, its page, its headers. The rest comes from a `Source`.
 #![tactic(auto)]
 
 mod command;

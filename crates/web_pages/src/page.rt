@@ -1,6 +1,7 @@
 //! The page.
 
-/// The page, whole: it asks for everything else. `tools/page_hashes.py` has to run after each change of its style or script.
+/// The page, whole: it asks for everything else. `tools/page_hashes.py` has to run after each change of its style or
+/// script.
 pub(crate) const PAGE: &str = r##"<!doctype html>
 <html lang="en">
 <head>
@@ -525,7 +526,7 @@ function levelOf(e) {
   if (e.kind === "stored") return e.status === "retained" ? 1 : 2;
   if (e.kind !== "indication") return WARNINGS.includes(e.kind) ? 2 : 1;
   if (e.name === "File-Segment-Recv") return 0;
-  if (e.name === "Transaction-Finished") return e.condition === 0 && (e.delivery === "complete" || e.status === "unreported") ? 1 : 2;
+  if (e.name === "Transaction-Finished") return e.condition === 0 && (e.delivery === "complete" && e.status === "retained" || e.status === "unreported") ? 1 : 2;
   if (e.name === "Suspended") return e.condition === 14 ? 1 : 2;
   return e.name === "Fault" || e.name === "Abandoned" ? 2 : 1;
 }

@@ -13,7 +13,8 @@ use http::Request;
 #[derive(Clone, Copy, Debug)]
 struct Made;
 
-/// The body of a request that has the token. A source receives a command as nothing else, and only `permit_of` makes one.
+/// The body of a request that has the token. A source receives commands only in this form, and only `permit_of` makes
+/// one.
 #[derive(Clone, Copy, Debug)]
 pub struct Permit<'a> {
     pub line: &'a [u8],

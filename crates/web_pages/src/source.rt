@@ -23,8 +23,8 @@ pub trait Source {
     /// What the station may reply to a command.
     ghost tells: { Self → Tells };
 
-    /// Writes what is at a route into an empty text: of events those after the one with the ID `last`, or all if no event has
-    /// that ID.
+    /// Writes what is at a route into an empty text: of events those after the one with the ID `last`, or all if no
+    /// event has that ID.
     fn fill(&self, route: Route, last: &[u8], text: &mut Vec<u8>) -> Result<Found, AllocError>
         requires { text.old.items ≡ [] }
         ensures { IfOk result (λ found. shows self.now route last.now found text.new.items) };
