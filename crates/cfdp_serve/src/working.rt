@@ -20,7 +20,7 @@ const ROUNDS: usize = 256;
 
 const PRINTED_OCTETS: usize = 65_536;
 
-// How often a server that quits takes what users received, at most.
+// How many times at most a server that quits takes what users received.
 const LAST_RECEIPTS: usize = 64;
 
 /// A server, and where its replies are printed.
@@ -32,8 +32,8 @@ pub(crate) struct Serving<'a, N: Names, R: Files + AllocGlobal + Copy + Drop, W:
 
 impl<'a, N: Names, R: Wait + Clock + Files + AllocGlobal + Copy + Drop, W: Write + Drop> MainThread
     for Serving<'a, N, R, W> {
-    /// Works in turns until `quit` or the end of the commands. A turn handles at most one command, and a few timers, parked
-    /// datagrams and PDUs of files under way.
+    /// Works in turns until `quit` or the end of the commands. A turn handles at most one command, and a few timers,
+    /// parked datagrams and PDUs of files under way.
     fn work(self) -> Result<u8, ProgramFault> {
         let Serving { server, console } = self;
         let mut server = server;
@@ -86,7 +86,7 @@ fn work<N: Names, R: Wait + Clock + Files + AllocGlobal + Copy + Drop, W: Write 
     Ok(())
 }
 
-// Takes what users received up to the end, where it is reported or recorded.
+// Takes what users received up to the end, if it is reported, recorded or counted.
 fn receive_last<N: Names, R: Wait + Clock + Files + AllocGlobal + Copy + Drop, W: Write + Drop>(
     server: &mut Server<'_, N, R>,
     console: &mut Console<'_, W>,
@@ -105,7 +105,7 @@ fn receive_last<N: Names, R: Wait + Clock + Files + AllocGlobal + Copy + Drop, W
     Ok(())
 }
 
-// Replies to the next command, if there is one. Says whether there was one, and whether the server goes on.
+// Replies to the next command, if there is one. Returns whether there was one, and whether the server goes on.
 fn answer_next<N: Names, R: Wait + Clock + Files + AllocGlobal + Copy + Drop, W: Write + Drop>(
     server: &mut Server<'_, N, R>,
     console: &mut Console<'_, W>,
@@ -139,8 +139,8 @@ fn answer_next<N: Names, R: Wait + Clock + Files + AllocGlobal + Copy + Drop, W:
     Ok((true, next))
 }
 
-// Adds the next piece of a recording that is to be printed, and returns whether one is. If memory for the piece runs out, it is
-// printed later.
+// Adds the next piece of a recording that is to be printed, and returns whether one is. If memory for the piece runs
+// out, it is printed later.
 fn prints_recording<N: Names, R: Wait + Clock + Files + AllocGlobal + Copy + Drop>(
     server: &mut Server<'_, N, R>,
     text: &mut String,
@@ -162,12 +162,13 @@ fn obey<N: Names, R: Wait + Clock + Files + AllocGlobal + Copy + Drop>(
     text: &mut String,
 ) -> Result<Next, AllocError> {
     let words = server.words_of(&said);
-    let unread = server.unread_of(&said);
+    let mut unread = server.unread_of(&said);
     let next = match server.obey(said, asker, text) {
         Ok(next) => next,
         Err(AllocError) => {
             text.clear();
             push_no_memory(text)?;
+            unread = None;
             Next::GoesOn
         }
     };
@@ -175,8 +176,8 @@ fn obey<N: Names, R: Wait + Clock + Files + AllocGlobal + Copy + Drop>(
     Ok(next)
 }
 
-// Takes what users received so far, if that is wanted, in rounds, as long as the last round took a bundle. Says whether any
-// was taken.
+// Takes what users received so far, if that is wanted, in rounds, as long as the last round took a bundle. Returns
+// whether any was taken.
 fn receive<R: Wait + Clock + Files, W: Write + Drop>(
     rt: &R,
     audience: &mut Audience<'_, R>,

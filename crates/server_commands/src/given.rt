@@ -11,7 +11,7 @@ use std::sync::Wait;
 use std::time::Clock;
 
 impl<'a, N: Names, R: Wait + Clock + Files + AllocGlobal + Copy + Drop> Server<'a, N, R> {
-    /// The words of a command to be reported: none if that isn't wanted, it changes nothing, or memory ran out.
+    /// The words of a command to be reported; empty if that isn't wanted, it changes nothing, or memory ran out.
     pub fn words_of(&self, said: &Said) -> Vec<u8> {
         if !self.logs_commands || !self.audience.reports.has_readers() {
             return Vec::new(self.alloc);
@@ -29,7 +29,8 @@ impl<'a, N: Names, R: Wait + Clock + Files + AllocGlobal + Copy + Drop> Server<'
         }
     }
 
-    /// Reports a command by its words, if there are any, with the reply, and why its file can't be read, if the reply says that.
+    /// Reports a command by its words, if there are any, with the reply, and why its file can't be read, if that is to
+    /// be said.
     pub fn report_command(
         &mut self,
         words: &[u8],
@@ -41,11 +42,6 @@ impl<'a, N: Names, R: Wait + Clock + Files + AllocGlobal + Copy + Drop> Server<'
             return;
         }
         let seat = asker.map(|asker| asker.seat as u64);
-        let unread = if answer == "read fault\n" {
-            unread
-        } else {
-            None
-        };
         if let Ok(words) = str::from_utf8(words) {
             let reports = &mut self.audience.reports;
             reports.command(words, answer, seat, unread);

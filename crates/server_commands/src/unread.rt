@@ -1,4 +1,4 @@
-//! Why a file couldn't be read, for who reads events.
+//! Why a file couldn't be read, for whoever reads events.
 use crate::commands::Server;
 use cfdp_types::Octets;
 use program_desk::Said;
@@ -9,14 +9,15 @@ use std::sync::Wait;
 use std::time::Clock;
 
 impl<'a, N: Names, R: Wait + Clock + Files + AllocGlobal + Copy + Drop> Server<'a, N, R> {
-    /// Why the file of a line can't be read, if that is to be said.
+    /// Why the reply to a line is a `read fault`, if it is one and that is to be said. A `send` to an entity that isn't
+    /// configured is refused for that first.
     pub fn unread_of(&self, said: &Said) -> Option<Unread> {
         if !self.explains {
             return None;
         }
         match said {
             Said::Put(_, file) => unread_in(file),
-            Said::Send(_, size) => unread_in(size),
+            Said::Send(send, size) if self.station.is_known(send.destination) => unread_in(size),
             _ => None,
         }
     }
