@@ -125,6 +125,9 @@ def words_of_the_line():
             ("a level that isn't there", ["follow", "--level", "debug"], b"'debug' must be detail, info or warning"),
             ("an option of send", ["watch", FOLDER, "--to", "5", "--urgent"], b"--urgent doesn't go with watch"),
             ("a moment that is none", ["history", "--log", FILE, "--since", "26-11-2026"], b"'26-11-2026' is not a moment"),
+            ("a month that is none", ["history", "--log", FILE, "--since", "2026-13-01"], b"'2026-13-01' is not a moment"),
+            ("a day that is none", ["history", "--log", FILE, "--since", "2100-02-29"], b"'2100-02-29' is not a moment"),
+            ("an hour that is none", ["history", "--log", FILE, "--since", "2028-02-29T24"], b"'2028-02-29T24' is not a moment"),
             ("a word that a terminal would obey", ["status", "\x1b[2J"], b"'\\x1b[2J'"),
     ]:
         check(title, ctl(*line), 2, b"", errors)
@@ -237,13 +240,14 @@ def layout():
     entity = {"kind": "entity", "id": 1, "version": "0.1", "started": "2026-11-26T12:00:00.000Z",
               "now": "2028-03-01T00:00:00.000Z", "counters": {"ended_reads": 2}}
     under_way = {"kind": "transaction", "source": 1, "seq": 41, "user": "ops", "lane": 3, "role": "receiver", "peer": 7,
-                 "state": "active", "to_hex": "62ff", "size": 100, "octets": 45, "last": "2028-02-28T00:00:00.000Z"}
-    rows = [(45, 100, "2028-02-28T00:00:00.000Z", "[####......] 45% 45 B - 2 d ? to b\\xff"),
-            (1536, 1536, "2028-02-29T23:59:59.250Z", "[##########] 100% 1.5 KiB - 0.7 s ? to b\\xff"),
-            (0, 0, "2028-02-29T23:58:59.000Z", "[##########] 100% 0 B - 61 s ? to b\\xff"),
-            (3145728, 2**63, "2028-02-29T22:00:01.000Z", "[..........] 0% 3.0 MiB - 119 min ? to b\\xff"),
-            (5368709120, 2**63, "2028-02-29T21:00:00.000Z", "[..........] 0% 5.0 GiB - 3 h ? to b\\xff"),
-            (1023, 1024, "no moment", "[#########.] 99% 1023 B - - ? to b\\xff")]
+                 "state": "active", "to_hex": "625cff", "size": 100, "octets": 45, "last": "2028-02-28T00:00:00.000Z"}
+    rows = [(45, 100, "2028-02-28T00:00:00.000Z", "[####......] 45% 45 B - 2 d ? to b\\x5c\\xff"),
+            (1536, 1536, "2028-02-29T23:59:59.250Z", "[##########] 100% 1.5 KiB - 0.7 s ? to b\\x5c\\xff"),
+            (1946, 1946, "2028-02-29T23:59:59.250Z", "[##########] 100% 1.9 KiB - 0.7 s ? to b\\x5c\\xff"),
+            (0, 0, "2028-02-29T23:58:59.000Z", "[##########] 100% 0 B - 61 s ? to b\\x5c\\xff"),
+            (3145728, 2**63, "2028-02-29T22:00:01.000Z", "[..........] 0% 3.0 MiB - 119 min ? to b\\x5c\\xff"),
+            (5368709120, 2**63, "2028-02-29T21:00:00.000Z", "[..........] 0% 5.0 GiB - 3 h ? to b\\x5c\\xff"),
+            (1023, 1024, "no moment", "[#########.] 99% 1023 B - - ? to b\\x5c\\xff")]
     for octets, size, last, wanted in rows:
         with station(*said([entity, {**under_way, "octets": octets, "size": size, "last": last}])):
             run = ctl("status", "--width", "200")
@@ -275,7 +279,7 @@ def layout():
         run = ctl("status", "--width", "200")
         want("lanes for which datagrams wait", run.stdout ==
              b"Parked\nuser     lane  datagrams  transactions    octets  dropped  since\n"
-             b"ops\\x1b     3         12             2  16.5 KiB        0  2025-11-27T12:00:00.250Z\n"
+             b"ops\\x1b     3         12             2  16.6 KiB        0  2025-11-27T12:00:00.250Z\n"
              b"o          10          -             -         -        5  -\n\n", run.stdout)
     note = {"kind": "note", "remote": 7, "sending_lanes": 6, "receiving_lanes": 8}
     for better, wanted in (([1, 2, 4, 8], b"; 1, 2, 4 or 8 would not."), ([1, 2], b"; 1 or 2 would not."),
@@ -287,7 +291,7 @@ def layout():
     with station("--parked", "2", "--note"):
         run = ctl("status")
         check("datagrams that wait, and notes", run, 0, b"lanes of entity 5, so files wait for each other; 1, 2, 4, 8 or 16 would not.\n\n")
-        want("datagrams that wait", run.stdout.count(b" 12             2  16.5 KiB        0  20") == 2, run.stdout)
+        want("datagrams that wait", run.stdout.count(b" 12             2  16.6 KiB        0  20") == 2, run.stdout)
     with station():
         run = ctl("status")
         want("neither datagrams that wait nor notes", b"Parked" not in run.stdout and b"Note" not in run.stdout, run.stdout)
@@ -295,6 +299,31 @@ def layout():
         check("a file that is read", ctl("status"), 0, b"Z  /tmp/a.bin\n")
     with station(*said([{"kind": "log", "failing": True, "lost": 7}])):
         check("a log that fails", ctl("status"), 0, b"The log can't be written; events lost: 7\n")
+
+
+def followed(events, *words):
+    """What is printed of these events to somebody who follows them."""
+    with station(*said(events=events)):
+        run = subprocess.Popen([PROGRAM, "--control", SOCKET, *words, "follow", "--level", "detail"], stdout=subprocess.PIPE,
+                               stderr=subprocess.DEVNULL, env=PLAIN)
+        told, end = b"", time.monotonic() + PATIENCE
+        while told.count(b"\n") < len(events) and time.monotonic() < end:
+            if select.select([run.stdout], [], [], 1)[0]:
+                told += os.read(run.stdout.fileno(), 65_536) or b"\n" * len(events)
+        ctl("quit")
+        out, _ = run.communicate(timeout=PATIENCE)
+        return told + out
+
+
+def tones_of_events():
+    """What an operator has to look at is red: a suspension that nobody asked for, but not a file without a report."""
+    about = {"at": "2026-11-26T12:00:00.000Z", "kind": "indication", "user": "ops", "source": 1, "seq": 41}
+    end = {**about, "name": "Transaction-Finished", "delivery": "complete"}
+    rows = [({**about, "name": "Suspended", "condition": 14}, False), ({**about, "name": "Suspended", "condition": 10}, True),
+            ({**end, "condition": 0, "status": "unreported"}, False), ({**end, "condition": 4, "status": "discarded"}, True),
+            ({**about, "kind": "journal-full"}, True), ({**about, "kind": "put"}, False)]
+    lines = followed([event for event, _ in rows], "--colour", "always").split(b"\n")
+    want("events in red", [b"\x1b[31m" in line for line in lines[:len(rows)]] == [is_red for _, is_red in rows], lines)
 
 
 def words_of_events():
@@ -319,6 +348,7 @@ def words_of_events():
         ({**at, "kind": "start", "id": 2}, "the server starts as entity 2"),
         ({**at, "kind": "stored", "source": 1, "seq": 41, "status": "rejected"}, "1.41 file rejected"),
         ({**at, "kind": "reads-ended"}, "a worker stopped reading: its socket failed"),
+        ({**at, "kind": "journal-full", "user": "ops", "source": 1, "seq": 41}, "ops 1.41 abandoned: its journal is full"),
         ({**at, "kind": "put", "user": "ops", "source": 1, "seq": 41, "peer": 7, "class": 2, "file": "a", "to": "b", "size": 9,
           "queued": 3}, "ops 1.41 put: a to b, 9 B, for entity 7 in class 2, file 3 of the outbox"),
         ({**at, "kind": "unsent", "queued": 3, "user": "ops", "destination": 7, "file": "a", "why": "refused 9 X\x07"},
@@ -330,16 +360,7 @@ def words_of_events():
         ({**at, "kind": "release", "id": 7}, "the link to entity 7 is released"),
         ({**at, "kind": "end"}, "the server ends"),
     ]
-    with station(*said(events=[event for event, _ in rows])):
-        run = subprocess.Popen([PROGRAM, "--control", SOCKET, "follow", "--level", "detail"], stdout=subprocess.PIPE,
-                               stderr=subprocess.DEVNULL, env=PLAIN)
-        told, end = b"", time.monotonic() + PATIENCE
-        while told.count(b"\n") < len(rows) and time.monotonic() < end:
-            if select.select([run.stdout], [], [], 1)[0]:
-                told += os.read(run.stdout.fileno(), 65_536) or b"\n" * len(rows)
-        ctl("quit")
-        out, _ = run.communicate(timeout=PATIENCE)
-        out = told + out
+    out = followed([event for event, _ in rows])
     seen = out.decode().split("\n")
     for place, (_, wanted) in enumerate(rows):
         want(f"event {place}", seen[place:place + 1] == ["2026-11-26 12:00:00.000Z " + wanted], (seen[place:place + 1], wanted))
@@ -545,7 +566,8 @@ def histories():
     with open(far, "wb") as file:
         file.write(lines_of(at(0, kind="start", id=7, version="0.1"),
                             told(3.5, 5, "Metadata-Recv", origin=1, size=4096, file="a.bin", to="b.bin", messages=[]),
-                            told(4.5, 5, "Transaction-Finished", **kept), told(5, 9, "Abandoned", condition=8, progress=0)))
+                            told(4.5, 5, "Transaction-Finished", **kept), told(5, 9, "Abandoned", condition=8, progress=0))
+                   + b"x" * 2_097_152)
     first = b"2026-11-26 12:00:05.000Z  to 7        ops 1.5              4.0 KiB     2.000 s   2.0 KiB/s  " \
             b"complete, retained      a.bin to b.bin\n"
     second = b"2026-11-26 12:00:59.500Z  to 7        ops 1.6                100 B    49.250 s           -  " \
@@ -555,7 +577,7 @@ def histories():
     fourth = b"2026-11-26 12:00:05.000Z  from 1      ops 1.9                    -           -           -  " \
              b"abandoned, inactivity detected  ? to ?\n"
     sums = b"sent: 2, failed: 1, octets of the others: 4.0 KiB\nreceived: 2, failed: 1, octets of the others: 4.0 KiB\n" \
-           b"without an end: 1\nlines that are no JSON object, skipped: 3\n"
+           b"without an end: 1\nlines that are not JSON objects, skipped: 4\n"
     run = ctl("history", "--log", older, near, far, control=False)
     check("a history", run, 0)
     want("a history, its lines", run.stdout == first + second + third + fourth + sums, run.stdout.decode())
@@ -575,7 +597,13 @@ def histories():
         "end": "failed", "how": "abandoned, inactivity detected"}, objects)
     want("a history as JSON, its sums", objects[4] == {
         "sent": {"ended": 2, "failed": 1, "octets": 4096}, "received": {"ended": 2, "failed": 1, "octets": 4096},
-        "unknown": {"ended": 0, "failed": 0, "octets": 0}, "open": 1, "skipped": 3}, objects)
+        "unknown": {"ended": 0, "failed": 0, "octets": 0}, "open": 1, "skipped": 4}, objects)
+    for day in ("2026-00-01", "2026-11-00", "2027-02-29", "1900-02-29", "2026-04-31", "2026-06-31", "2026-09-31",
+                "2026-11-31", "2026-12-32", "2026-11-26T12:60", "2026-11-26T12:00:60", "2026-11-26T12:00:00.000ZZ"):
+        check(f"since {day}", ctl("history", "--since", day, "--log", near, control=False), 2, b"", b"is not a moment")
+    for day in ("2000-02-29", "2028-02-29", "2026-11-26T23:59:59.999Z", "2026-02-28",
+                *(f"2026-{month:02}-{30 + (month in (1, 3, 5, 7, 8, 10, 12))}" for month in (1, *range(3, 13)))):
+        check(f"since {day}", ctl("history", "--since", day, "--log", near, control=False), 0, b"sent: ")
     run = ctl("history", "--log", near)
     check("a history without its beginning", run, 0, b"12:00:05.000Z  with ?      ops 1.5 ")
     check("a log that isn't there", ctl("history", "--log", "missing", near), 3, b"sent: ", b"cfdp_ctl: missing: no such file\n")
@@ -722,8 +750,9 @@ def hot_folder_of_servers(server):
         def start(number):
             peer = 3 - number
             words = (server, number, ports[number - 1], peer, relay.ports[number - 1], ("--numbers", f"numbers{number}"))
-            # a file may wait until the receiver gives up those of a sender that was killed, whose lanes they are in
-            one = Station(*words, users=("alice",), limit=60)
+            # a file waits until the receiver gives up those of a sender that was killed, whose lanes they are in, several in turn: so
+            # the sender has much more patience
+            one = Station(*words, users=("alice",), limit=120 if number == 1 else 15)
             one.client().close()
             started.append(one)
             return one
@@ -831,6 +860,20 @@ def hot_folders():
             check("another file with the name of one in sent", ctl("watch", folder, "--to", "5", "--once"), 0, b"a.bin: finished: complete")
         want("files with one name", left_in(folder)[:2] == ([], ["a.bin", "a.bin.2", "a.bin.3", "d.bin"]), left_in(folder))
         check("an empty folder", ctl("watch", folder, "--to", "5", "--once"), 0, b"")
+    with station("--transactions", "0"):
+        name = "n" * 255
+        folder = hot_folder("hot", {name: 10})
+        check("a file with the longest name", ctl("watch", folder, "--to", "5", "--once"), 0, b"finished: complete")
+        want("a file with the longest name, where it is", left_in(folder) == ([], [name], []), left_in(folder))
+        shutil.copy2(os.path.join(folder, "sent", name), folder)
+        check("a file with the longest name that is in sent", ctl("watch", folder, "--to", "5", "--once"), 0, b"", b"it is in sent already")
+    with station("--lose", "b", "--transactions", "0"):
+        folder = hot_folder("hot", {"b": 10})
+        os.mkdir(os.path.join(folder, "failed"))
+        with open(os.path.join(folder, "failed", "b.why"), "wb") as file:
+            file.write(b"another's")
+        check("a file whose reason's name is taken", ctl("watch", folder, "--to", "5", "--once"), 4, b"queued 1: b\n")
+        want("a file whose reason's name is taken, where it is", left_in(folder) == ([], [], ["b.2", "b.2.why", "b.why"]), left_in(folder))
     with station("--transactions", "0"):
         folder = hot_folder("hot", {"a.bin": 10})
         run = ctl("watch", folder, "--to", "5", "--class", "1", "--once")
@@ -954,6 +997,7 @@ no_answers()
 tables()
 layout()
 words_of_events()
+tones_of_events()
 at_a_terminal()
 events()
 last_events()

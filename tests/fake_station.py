@@ -80,12 +80,18 @@ def named(member, octets):
 LEVELS = ["detail", "info", "warning"]
 
 
+WARNINGS = ("unsent", "refused", "unparked", "journal-full", "reads-ended", "Fault", "Abandoned")
+
+
 def level_of(event):
-    """The level of an event, of those that this station tells."""
-    if event.get("name") == "File-Segment-Recv":
+    """The level of an event, as a server has it."""
+    name = event.get("name") if event["kind"] == "indication" else event["kind"]
+    if name == "File-Segment-Recv":
         return "detail"
-    is_bad = event["kind"] == "unsent" or event.get("name") in ("Fault", "Abandoned") or event.get("condition")
-    return "warning" if is_bad else "info"
+    is_whole = event.get("delivery") == "complete" and event.get("status") == "retained"
+    is_bad = {"Suspended": event.get("condition") != 14, "stored": event.get("status") != "retained",
+              "Transaction-Finished": event.get("condition") != 0 or not is_whole and event.get("status") != "unreported"}
+    return "warning" if name in WARNINGS or is_bad.get(name) else "info"
 
 
 class Station:

@@ -61,7 +61,7 @@ impl Line {
         Ok(self.station.ask(rt, command, self.limit)?)
     }
 
-    /// The lines of the reply to a command that a server works on for longer, and whose reply may be large.
+    /// The lines of the reply to a command that takes a server longer, and whose reply may be large.
     pub(crate) fn ask_patiently<R: Clock + Wait>(
         &mut self,
         rt: &R,
@@ -90,7 +90,7 @@ pub(crate) fn may_return(fault: StationFault) -> bool {
     )
 }
 
-/// Another connection, as soon as there is one, after a fault reported with the socket's path.
+/// Reports a fault with the socket's path, and returns another connection as soon as there is one.
 pub(crate) fn line_again<R, W, E>(
     rt: &R,
     alloc: Global,

@@ -13,7 +13,8 @@ use std::time::Clock;
 // How many milliseconds one wait for an event lasts, before the next one.
 const TURN_MILLIS: u64 = 60_000;
 
-/// Prints events until the server goes away; if the command line says so, then those of the next server at the same path.
+/// Prints events until the server goes away. If the command line says so, then prints those of the next server at the
+/// same path.
 pub(crate) fn follow<R, W, E>(
     rt: &R,
     alloc: Global,
@@ -66,8 +67,8 @@ where
     Ok(0)
 }
 
-/// Asks the server to send events, of a level and above if one is given, first the last ones that it has kept if their number is given.
-/// If it refuses, its reply is printed. Returns the exit status for that reply.
+/// Asks the server to send events: of a level and above if one is given, and first the last ones that it has kept if
+/// their number is given. If it refuses, prints its reply. Returns the exit status for that reply.
 pub(crate) fn ask_for_events<R, W, E>(
     rt: &R,
     alloc: Global,

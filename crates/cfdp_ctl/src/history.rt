@@ -58,7 +58,7 @@ where
     Ok(status)
 }
 
-// The reading before any log; `None` if the moment is none.
+// The reading before any log. If the word for the moment isn't one, prints a line and returns `None`.
 fn reading_for<W: Write + Drop, E: Write + Drop>(
     alloc: Global,
     screen: &mut Screen<W, E>,
@@ -122,7 +122,12 @@ fn read_log<F: Read + Drop, W: Write + Drop, E: Write + Drop>(
         line.clear();
         let read = (&mut reader).take(LINE_OCTETS).read_until(b'\n', &mut line);
         match read {
-            Ok(0) => return Ok(true),
+            Ok(0) => {
+                if is_cut {
+                    reading.history.skip();
+                }
+                return Ok(true);
+            }
             Ok(_) if is_long(line.as_slice()) => is_cut = true,
             Ok(_) if is_cut => {
                 reading.history.skip();

@@ -83,12 +83,12 @@ pub(crate) fn user_for<W: Write + Drop, E: Write + Drop>(
     Ok(None)
 }
 
-// Whether a remote entity is among these. A server that tells of none is taken to have it.
+// Whether a remote entity is among these. A server that reports none is taken to have it.
 fn has_remote(remotes: &[u64], remote: u64) -> bool {
     remotes.is_empty() || remotes.iter().any(|one| *one == remote)
 }
 
-// Whether a user is among these. A server that tells of none is taken to have it.
+// Whether a user is among these. A server that reports none is taken to have it.
 fn has_user(users: &[String], name: &str) -> bool {
     users.is_empty() || users.iter().any(|one| one.as_str() == name)
 }

@@ -169,7 +169,7 @@ fn width_given<R: Env + AllocGlobal>(rt: &R, width: Option<u64>) -> Option<usize
     }
 }
 
-// Does it at a control socket; a fault there is reported with the path.
+// Does what the command line asks for at a control socket. Reports a fault there with the path.
 fn run_told<R, W, E>(
     rt: &R,
     alloc: Global,

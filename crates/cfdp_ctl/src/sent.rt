@@ -41,7 +41,7 @@ pub(crate) struct SentFiles<'a> {
 }
 
 impl<'a> SentFiles<'a> {
-    /// Without any file.
+    /// No files yet.
     pub(crate) fn new(alloc: Global) -> SentFiles<'a> {
         SentFiles {
             files: Vec::new(alloc),

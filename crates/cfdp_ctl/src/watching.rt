@@ -23,10 +23,10 @@ use std::rt::Files;
 use std::sync::Wait;
 use std::time::{Clock, Duration};
 
-// For how many milliseconds one waits for an event before the folder is looked at again.
+// How many milliseconds to wait for an event before looking at the folder again.
 const TURN_MILLIS: u64 = 500;
 
-// How many events are handled before the folder is looked at again.
+// How many events to handle before looking at the folder again.
 const EVENTS: usize = 1_024;
 
 /// Whether a path leads to a folder; prints a line if it doesn't.
@@ -60,12 +60,12 @@ struct Watching<'a> {
     files: HotFiles,
     /// Whether each file so far has arrived.
     all_arrived: bool,
-    /// Whether somebody was told of names that aren't UTF-8.
+    /// Whether names that aren't UTF-8 were reported.
     told_of_odd: bool,
 }
 
-/// Sends each file that comes into the folder, and moves it once it has ended; waits for the server if it goes away. With
-/// `once`, returns the exit status once no file is left.
+/// Sends each file that comes into the folder, and moves it once it has ended. Waits for the server if it goes away.
+/// With `once`, returns the exit status once no file is left.
 pub(crate) fn watch<R, W, E>(
     rt: &R,
     alloc: Global,
@@ -107,10 +107,14 @@ fn watching_for<'a, R: Env + AllocGlobal>(
     words: WatchWords<'a>,
 ) -> Result<Watching<'a>, CtlFault> {
     let current = Folder::of(rt, alloc, &[words.folder])?;
-    let folder = whole_path(alloc, &current, words.folder)?;
+    let path = whole_path(alloc, &current, words.folder)?;
+    let folder = match path.as_str().trim_end_matches('/') {
+        "" => "/",
+        trimmed => trimmed,
+    };
     Ok(Watching {
         words,
-        folder: String::from_str(alloc, folder.as_str().trim_end_matches('/'))?,
+        folder: String::from_str(alloc, folder)?,
         user: String::new(alloc),
         files: HotFiles::new(alloc),
         all_arrived: true,
@@ -118,8 +122,8 @@ fn watching_for<'a, R: Env + AllocGlobal>(
     })
 }
 
-// Begins with a server: finds the user, follows its events, and learns which files of the folder it has. Returns an exit status
-// if that ends the program.
+// Begins with a server: finds the user, follows its events, and learns which files of the folder it has. Returns an
+// exit status if that ends the program.
 fn begin<R, W, E>(
     rt: &R,
     alloc: Global,
@@ -174,8 +178,8 @@ fn name_in<'a>(folder: &str, path: &'a str) -> Option<&'a str> {
     path.strip_prefix(folder)?.strip_prefix("/")
 }
 
-// Handles the events that came, looks at the folder, and sends what is ready. Returns the exit status once no file is left, if
-// that ends the program, or if the folder can't be read.
+// Handles the events that came, looks at the folder, and sends what is ready. Returns the exit status once no file is
+// left, if that ends the program, or if the folder can't be read.
 fn turn<R, W, E>(
     rt: &R,
     alloc: Global,
@@ -313,7 +317,7 @@ struct Done<'a> {
     name: &'a str,
     given: Sight,
     has_arrived: bool,
-    /// What is printed of it.
+    /// What is printed about it.
     words: &'a str,
     /// What is written beside it, if it didn't arrive.
     reason: &'a str,

@@ -24,7 +24,7 @@ pub struct HotFiles {
 }
 
 impl HotFiles {
-    /// Without any file.
+    /// No files yet.
     pub fn new(alloc: Global) -> HotFiles {
         HotFiles {
             alloc,
@@ -32,7 +32,7 @@ impl HotFiles {
         }
     }
 
-    /// Takes in what is in the folder now. A file that is gone is forgotten, unless it is under way.
+    /// Notes what is in the folder now. A file that is gone is forgotten, unless it is under way.
     pub fn look(&mut self, found: Vec<Found>, now: u64) -> Result<(), AllocError> {
         let mut before = mem::replace(&mut self.files, BTreeMap::new(self.alloc));
         for one in found {

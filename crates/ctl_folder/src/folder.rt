@@ -7,7 +7,7 @@ use std::rt::Files;
 use std::time::UNIX_EPOCH;
 use std::{fs, io};
 
-/// Where files go that arrived, and those that didn't: folders in the folder.
+/// The folders, inside the watched one, for files that arrived and for files that didn't.
 pub const SENT: &str = "sent";
 
 pub const FAILED: &str = "failed";
@@ -99,7 +99,7 @@ pub fn is_unchanged<R: Files>(
     Ok(is_as_seen(rt, path.as_str(), sight) == Some(true))
 }
 
-// Whether a file is as it was seen; nothing if there is none.
+// Whether a file is as it was seen; `None` if there is none.
 fn is_as_seen<R: Files>(rt: &R, path: &str, sight: Sight) -> Option<bool> {
     match fs::symlink_metadata(rt, path) {
         Ok(metadata) => Some(is_same(sight, metadata.len(), written_at(&metadata))),
@@ -107,7 +107,8 @@ fn is_as_seen<R: Files>(rt: &R, path: &str, sight: Sight) -> Option<bool> {
     }
 }
 
-/// Whether the folder `sent` has a file with this name, size and time.
+/// Whether the folder `sent` has a file with this size and time, under one of a file's names before the first that is
+/// free.
 pub fn was_sent<R: Files>(
     rt: &R,
     alloc: Global,
@@ -139,8 +140,9 @@ pub fn make_folders<R: Files>(rt: &R, alloc: Global, folder: &str) -> io::Result
     Ok(())
 }
 
-/// Moves a file of the folder into one of those folders, under the first of its names that is free. If there is a reason, a file
-/// beside it has this text.
+/// Moves a file of the folder into one of those folders, under the first of its names that is free. If there is a
+/// reason, first writes that into another file beside it, whose name is free as well. The reason goes again if the file
+/// can't be moved.
 pub fn keep_file<R: Files>(
     rt: &R,
     alloc: Global,
@@ -150,37 +152,57 @@ pub fn keep_file<R: Files>(
     reason: Option<&str>,
 ) -> io::Result<()> {
     make_folders(rt, alloc, folder)?;
-    let into = format!(in alloc; "{folder}/{into}")?;
-    let path = free_path(rt, alloc, into.as_str(), name)?;
-    if let Some(text) = reason {
-        write_new(rt, why_name(alloc, path.as_str())?.as_str(), text)?;
-    }
     let old = format!(in alloc; "{folder}/{name}")?;
-    fs::rename(rt, old.as_str(), path.as_str())
+    let into = format!(in alloc; "{folder}/{into}")?;
+    let path = free_path(rt, alloc, into.as_str(), name, reason.is_some())?;
+    let Some(text) = reason else {
+        return fs::rename(rt, old.as_str(), path.as_str());
+    };
+    let why = why_name(alloc, path.as_str())?;
+    write_new(rt, why.as_str(), text)?;
+    let moved = fs::rename(rt, old.as_str(), path.as_str());
+    if moved.is_err() {
+        let _as_it_may = fs::remove_file(rt, why.as_str());
+    }
+    moved
 }
 
-// A path in a folder, by the first of a file's names for which neither that path nor the one of its reason is taken.
-fn free_path<R: Files>(rt: &R, alloc: Global, folder: &str, name: &str) -> io::Result<String> {
+// A free path in a folder, by the first of a file's names that is free, and whose reason's name is, if it has one.
+fn free_path<R: Files>(
+    rt: &R,
+    alloc: Global,
+    folder: &str,
+    name: &str,
+    has_reason: bool,
+) -> io::Result<String> {
     for number in 1..=NAMES {
         let name = kept_name(alloc, name, number)?;
         let path = format!(in alloc; "{folder}/{name}")?;
         let reason = why_name(alloc, path.as_str())?;
-        if is_free(rt, path.as_str()) && is_free(rt, reason.as_str()) {
+        if is_free(rt, path.as_str())? && (!has_reason || is_free(rt, reason.as_str())?) {
             return Ok(path);
         }
     }
     Err(ErrorKind::AlreadyExists.into())
 }
 
-fn is_free<R: Files>(rt: &R, path: &str) -> bool {
+// Whether there is nothing at a path. An error means that it can't be looked at, for example because its name is too
+// long.
+fn is_free<R: Files>(rt: &R, path: &str) -> io::Result<bool> {
     match fs::symlink_metadata(rt, path) {
-        Ok(_) => false,
-        Err(error) => error.kind() == ErrorKind::NotFound,
+        Ok(_) => Ok(false),
+        Err(error) if error.kind() == ErrorKind::NotFound => Ok(true),
+        Err(error) => Err(error),
     }
 }
 
+// Writes a new file. If that fails once the file is there, the file goes again.
 fn write_new<R: Files>(rt: &R, path: &str, text: &str) -> io::Result<()> {
     let mut options = OpenOptions::new();
     let mut file = options.write(true).create_new(true).open(rt, path)?;
-    file.write_all(text.as_bytes())
+    let written = file.write_all(text.as_bytes());
+    if written.is_err() {
+        let _as_it_may = fs::remove_file(rt, path);
+    }
+    written
 }

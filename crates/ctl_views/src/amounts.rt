@@ -21,12 +21,9 @@ pub(crate) fn push_octets(text: &mut String, octets: u64) -> Result<(), AllocErr
 
 // Adds an amount in a unit, rounded down to a tenth.
 fn push_tenths(text: &mut String, octets: u64, unit: u64, name: &str) -> Result<(), AllocError> {
-    let Some(whole) = octets.checked_div(unit) else {
-        return Ok(());
-    };
-    let tenth = (octets.saturating_sub(whole.saturating_mul(unit))
-        / (unit / 16).max(1)).saturating_mul(10)
-        / 16;
+    let whole = octets.checked_div(unit).unwrap_or(0);
+    let rest = octets.checked_rem(unit).unwrap_or(0);
+    let tenth = rest.saturating_mul(10).checked_div(unit).unwrap_or(0);
     write!(text, "{whole}.{tenth} {name}")
 }
 

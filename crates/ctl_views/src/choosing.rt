@@ -17,14 +17,14 @@ pub enum Topic {
     Server,
     /// A transaction that ended in this way.
     Ended(End),
-    /// A transaction that goes on.
+    /// A transaction under way.
     Going,
     /// Anything else.
     Other,
 }
 
-/// The lines of a status that are shown: with `remote` without those about other entities, and with `only_failed` the
-/// entity's and those of transactions that failed. A line that isn't JSON is shown if everything is.
+/// The lines of a status that are shown. With `remote`, those about other entities are left out. With `only_failed`,
+/// only the entity's and those of transactions that failed are shown. A line that isn't JSON is shown if everything is.
 pub fn shown_lines(
     alloc: Global,
     lines: &str,
@@ -118,7 +118,7 @@ fn is_of_remote(remote: Option<u64>, peer: Option<u64>) -> bool
     }
 }
 
-/// A transaction that goes on.
+/// A transaction under way.
 #[derive(Drop)]
 pub struct Live {
     pub user: String,
@@ -128,7 +128,7 @@ pub struct Live {
     pub peer: Option<u64>,
 }
 
-/// The transaction that goes on of which a line of a status tells; `None` for any other line.
+/// The transaction under way that a line of a status reports; `None` for any other line.
 pub fn read_live(alloc: Global, line: &str) -> Result<Option<Live>, AllocError> {
     let mut scratch = Scratch::new(alloc);
     match value_of(alloc, line, &mut scratch)? {

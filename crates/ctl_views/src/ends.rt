@@ -19,8 +19,8 @@ pub enum End {
     Lost,
 }
 
-/// The end that an event or a line of a status reports; `None` if it has no condition, as the line of a transaction whose
-/// last indication the server hasn't taken yet.
+/// The end that an event or a line of a status reports; `None` if it has no condition. The line of a transaction has
+/// none if the server hasn't taken its last indication yet.
 pub(crate) fn end_in(value: &Value<'_>) -> Option<End> {
     let condition = number_in(value, member::CONDITION)?;
     match (
@@ -50,13 +50,13 @@ fn end_of(condition: u64, delivery: &str, status: &str) -> End
 pub(crate) fn end_tone(value: &Value<'_>) -> Tone {
     match end_in(value) {
         Some(End::Kept) => Tone::Good,
-        Some(End::Unreported | End::Lost) => Tone::Bad,
-        None => Tone::Plain,
+        Some(End::Lost) => Tone::Bad,
+        Some(End::Unreported) | None => Tone::Plain,
     }
 }
 
-/// Adds how a transaction ended: its condition if that is an error, its delivery, and what became of the file. If there is
-/// no condition, it is still ending.
+/// Adds how a transaction ended: its condition if that is an error, its delivery, and what became of the file. If there
+/// is no condition, it is still ending.
 pub(crate) fn push_end(text: &mut String, value: &Value<'_>) -> Result<(), AllocError> {
     let Some(code) = number_in(value, member::CONDITION) else {
         return text.push_str("ending");

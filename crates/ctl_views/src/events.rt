@@ -7,7 +7,7 @@ use json::{Scratch, Value};
 use station_names::{kind, member};
 use std::alloc::{AllocError, Global};
 
-/// What an event reports of a file of the outbox.
+/// What an event reports about a file of the outbox.
 #[derive(Clone, Copy)]
 pub enum Step {
     /// The file with this number is being sent, by the event's transaction.
@@ -27,7 +27,7 @@ pub struct Event {
     pub user: Option<String>,
     /// The transaction that the event is about, if it is about one.
     pub transaction: Option<Transaction>,
-    /// What the event reports of a file of the outbox.
+    /// What the event reports about a file of the outbox.
     pub step: Step,
     /// The tone in which the event is shown.
     pub tone: Tone,

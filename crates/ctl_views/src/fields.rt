@@ -57,8 +57,8 @@ pub(crate) fn share_in(value: &Value<'_>) -> Option<u64> {
     Some(percent_of(octets, number_in(value, member::SIZE)?))
 }
 
-/// Adds a file's name: its text, or for octets that aren't UTF-8, those in hex that aren't ASCII letters; a question
-/// mark if there is no name.
+/// Adds a file's name: its text, or the octets of a name that isn't UTF-8, where a backslash and those that aren't
+/// graphic ASCII characters are in hex; a question mark if there is no name.
 pub(crate) fn push_name(
     alloc: Global,
     text: &mut String,
@@ -89,7 +89,7 @@ fn push_decoded(alloc: Global, text: &mut String, digits: &str) -> Result<(), Al
 }
 
 fn push_octet(text: &mut String, octet: u8) -> Result<(), AllocError> {
-    if octet.is_ascii_graphic() {
+    if octet.is_ascii_graphic() && octet != b'\\' {
         return text.push(char::from(octet));
     }
     text.push_str("\\x")?;

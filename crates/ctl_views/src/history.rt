@@ -41,7 +41,7 @@ pub struct Ended {
     pub how: String,
 }
 
-// What the log says of a transaction that goes on.
+// What the log says of a transaction under way.
 #[derive(Drop)]
 struct Begun {
     at: Option<u64>,
@@ -61,7 +61,7 @@ pub struct History {
     open: BTreeMap<(u64, u64), Begun>,
     // the transactions whose end was seen
     ended: BTreeMap<(u64, u64), ()>,
-    /// How many lines are no JSON object.
+    /// How many lines are not JSON objects.
     pub skipped: u64,
     /// How many transactions were under way at a start of the server.
     pub cut: u64,
@@ -212,7 +212,7 @@ fn ended_of(
     })
 }
 
-// The milliseconds from a moment to another.
+// The milliseconds from one moment to another; `None` if either isn't known, or if the second is earlier.
 fn span_of(from: Option<u64>, to: Option<u64>) -> Option<u64> {
     to?.checked_sub(from?)
 }

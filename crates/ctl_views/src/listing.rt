@@ -164,7 +164,7 @@ pub struct Sums {
     pub unknown: Sum,
     /// How many transactions have no end in the logs.
     pub open: u64,
-    /// How many lines are no JSON object.
+    /// How many lines are not JSON objects.
     pub skipped: u64,
 }
 
@@ -184,7 +184,7 @@ pub fn push_sums(alloc: Global, page: &mut Page, sums: &Sums) -> Result<(), Allo
     }
     if sums.skipped > 0 {
         let skipped = sums.skipped;
-        let text = format!(in alloc; "lines that are no JSON object, skipped: {skipped}")?;
+        let text = format!(in alloc; "lines that are not JSON objects, skipped: {skipped}")?;
         page.push_line(Tone::Bad, text.as_str())?;
     }
     Ok(())

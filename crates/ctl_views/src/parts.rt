@@ -25,7 +25,8 @@ pub(crate) enum Part {
     Names,
     /// Words, a number, and words after it.
     SomeNumber(&'static str, &'static str, &'static str),
-    /// Words, the numbers of a list, of which one may be chosen, and words after them; left out as well if the list is empty.
+    /// Words, the numbers of a list, of which one may be chosen, and words after them; left out also if the list is
+    /// empty.
     SomeNumbers(&'static str, &'static str, &'static str),
     /// Words, a text, and words after it.
     SomeText(&'static str, &'static str, &'static str),

@@ -89,7 +89,7 @@ fn push_log(alloc: Global, tables: &mut Tables, value: &Value<'_>) -> Result<(),
     }
 }
 
-// Adds a transaction; for one that goes on, what is seen is noted for the next look.
+// Adds a transaction. Of one under way, notes what is seen for the next look.
 fn push_transaction(
     alloc: Global,
     tables: &mut Tables,

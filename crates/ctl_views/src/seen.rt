@@ -14,7 +14,7 @@ pub(crate) struct Place {
     lane: u64,
 }
 
-/// What a look saw of the transactions that go on, and its moment in milliseconds.
+/// What a look saw of the transactions under way, and its moment in milliseconds.
 #[derive(Drop)]
 pub(crate) struct Seen {
     pub(crate) now: Option<u64>,
@@ -22,7 +22,7 @@ pub(crate) struct Seen {
 }
 
 impl Seen {
-    /// Without any transaction.
+    /// Nothing was seen yet.
     pub(crate) fn new(alloc: Global) -> Seen {
         Seen {
             now: None,
@@ -38,7 +38,7 @@ impl Seen {
     }
 }
 
-/// Looks at a transaction that goes on; what is seen of it is noted for the next look.
+/// Looks at a transaction under way, and notes what is seen of it for the next look.
 pub(crate) fn look_at(value: &Value<'_>, seen: &Seen, next: &mut Seen) -> Result<Look, AllocError> {
     let octets = number_in(value, member::OCTETS).unwrap_or(0);
     let place = place_of(value);

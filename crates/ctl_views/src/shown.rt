@@ -59,7 +59,7 @@ impl Shown {
         Ok(())
     }
 
-    /// Adds a text as `push_visible` does, in at most `columns` columns. If it has more, a dot replaces the rest.
+    /// Adds a text as `push_visible` does, in at most `columns` columns. If it has more, an ellipsis replaces the rest.
     pub(crate) fn push_within(&mut self, text: &str, columns: usize) -> Result<(), AllocError> {
         if columns_of(text) <= columns {
             return self.push_visible(text);

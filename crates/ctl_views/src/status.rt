@@ -20,7 +20,7 @@ pub struct StatusView {
 }
 
 impl StatusView {
-    /// Without any look.
+    /// Before any look.
     pub fn new(alloc: Global) -> StatusView {
         StatusView {
             alloc,

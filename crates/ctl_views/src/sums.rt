@@ -23,7 +23,7 @@ pub const NO_SUM: Sum = Sum {
 };
 
 impl Sum {
-    /// Counts a transaction that ended in this way, with a file of so many octets.
+    /// Counts a transaction that ended in this way, with a file of this many octets.
     pub fn add(&mut self, end: End, octets: u64)
         ensures { self.new ≡ with_end end octets self.old }
     {
@@ -82,7 +82,7 @@ fn is_since(since: Option<u64>, at: Option<u64>) -> bool
     }
 }
 
-/// Whether an entity is the asked one, if one is asked.
+/// Whether an entity is the one that is asked for; true if none is asked for.
 pub fn is_remote(remote: Option<u64>, peer: Option<u64>) -> bool
     ensures { result ≡ is_remote remote peer }
 {

@@ -5,7 +5,7 @@ use crate::rows::{Row, Table};
 use crate::shown::columns_of;
 use std::alloc::{AllocError, Global};
 
-// How many columns separate two cells, and how few a cell that is cut keeps.
+// How many columns separate two cells, and the fewest columns that a cut cell keeps.
 const GAP: usize = 2;
 
 const LEAST: usize = 12;

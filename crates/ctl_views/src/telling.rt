@@ -1,13 +1,16 @@
 //! Describes events in words.
 use crate::ends::end_tone;
 use crate::events::{Transaction, transaction_in};
-use crate::fields::text_in;
+use crate::fields::{number_in, text_in};
 use crate::page::Tone;
 use crate::parts::{NO_LOOK, Part, push_parts};
 use crate::words::{event_words, indication_words};
 use json::Value;
 use station_names::{kind, member};
 use std::alloc::{AllocError, Global};
+
+// The condition of a suspension that a user asked for.
+const SUSPEND_REQUEST: u64 = 14;
 
 /// Adds the moment of an event, and its user and transaction if it has them.
 pub(crate) fn push_head(line: &mut String, value: &Value<'_>) -> Result<(), AllocError> {
@@ -63,17 +66,22 @@ fn indication_tone(value: &Value<'_>) -> Tone {
     match name_of(value) {
         Some("Transaction-Finished") => end_tone(value),
         Some("Fault" | "Abandoned") => Tone::Bad,
+        Some("Suspended") if !is_wanted(value) => Tone::Bad,
         Some("File-Segment-Recv") => Tone::Faint,
         _ => Tone::Plain,
     }
 }
 
+// Whether a user asked for what an indication reports.
+fn is_wanted(value: &Value<'_>) -> bool {
+    number_in(value, member::CONDITION) == Some(SUSPEND_REQUEST)
+}
+
 fn event_tone(value: &Value<'_>) -> Tone {
     match name_of(value) {
         Some(kind::STORED) if text_in(value, member::STATUS) == Some("retained") => Tone::Plain,
-        Some(kind::STORED | kind::UNSENT | kind::UNPARKED | kind::REFUSED | kind::READS_ENDED) => {
-            Tone::Bad
-        }
+        Some(kind::STORED | kind::UNSENT | kind::UNPARKED | kind::REFUSED) => Tone::Bad,
+        Some(kind::JOURNAL_FULL | kind::READS_ENDED) => Tone::Bad,
         _ => Tone::Plain,
     }
 }

@@ -24,7 +24,7 @@ pub enum Place {
     Sent(Transaction),
 }
 
-/// The file of which a line of a status or an outbox tells that it waits or is being sent; `None` for any other line, and for a
+/// The file that a line of a status or an outbox reports as waiting or being sent; `None` for any other line, and for a
 /// file whose name isn't UTF-8.
 pub fn read_under_way(alloc: Global, line: &str) -> Result<Option<UnderWay>, AllocError> {
     let mut scratch = Scratch::new(alloc);

@@ -40,74 +40,102 @@ pub(crate) fn indication_words(name: &str) -> Option<&'static [Part]> {
 
 /// The words for any other event of this kind, if it is known.
 pub(crate) fn event_words(name: &str) -> Option<&'static [Part]> {
-    let parts: &'static [Part] = match name {
-        kind::START => &[
-            Words("the server starts as entity "),
-            Number(member::ID, "?"),
-        ],
-        kind::END => &[Words("the server ends")],
-        kind::PUT => &[
-            Words("put: "),
-            Names,
-            SomeOctets(", ", member::SIZE),
-            Words(", for entity "),
-            Number(member::PEER, "?"),
-            Words(" in class "),
-            Number(member::CLASS, "?"),
-            SomeNumber(", file ", member::QUEUED, " of the outbox"),
-        ],
-        kind::STORED => &[Words("file "), Text(member::STATUS, "?")],
-        kind::UNSENT => &[
-            Words("file "),
-            Number(member::QUEUED, "?"),
-            Words(" of the outbox is not sent: "),
-            Name(member::FILE),
-            Words(", for entity "),
-            Number(member::DESTINATION, "?"),
-            Words(": "),
-            Text(member::WHY, "?"),
-            SomeText(" (", member::REASON, ")"),
-        ],
-        kind::HOLD => &[
-            Words("the link to entity "),
-            Number(member::ID, "?"),
-            Words(" is held"),
-        ],
-        kind::RELEASE => &[
-            Words("the link to entity "),
-            Number(member::ID, "?"),
-            Words(" is released"),
-        ],
-        kind::UNPARKED => &[
-            Words("parked datagrams dropped for want of room: "),
-            Number(member::COUNT, "?"),
-        ],
-        kind::COMMAND => &[
-            Words("command "),
-            Text(member::WORDS, "?"),
-            Words(": "),
-            Text(member::ANSWER, "?"),
-            SomeText(" (", member::REASON, ")"),
-            Words(", from "),
-            Text(member::BY, "?"),
-            SomeNumber(" at seat ", member::SEAT, ""),
-        ],
-        kind::SKIPPED => &[
-            Words("transaction numbers skipped toward entity "),
-            Number(member::DESTINATION, "?"),
-            Words(": "),
-            Number(member::COUNT, "?"),
-            SomeNumber(", the next one is ", member::NEXT, ""),
-        ],
-        kind::REFUSED => &[
-            Words("refused: "),
-            Text(member::NAME, "?"),
-            SomeNumber(" ", member::FAULT, ""),
-            SomeNumber(", times ", member::COUNT, ""),
-            SomeText(", from ", member::FROM, ""),
-        ],
-        kind::READS_ENDED => &[Words("a worker stopped reading: its socket failed")],
+    let parts = match name {
+        kind::START => START,
+        kind::END => END,
+        kind::PUT => PUT,
+        kind::STORED => STORED,
+        kind::UNSENT => UNSENT,
+        kind::HOLD => HOLD,
+        kind::RELEASE => RELEASE,
+        kind::UNPARKED => UNPARKED,
+        kind::COMMAND => COMMAND,
+        kind::SKIPPED => SKIPPED,
+        kind::REFUSED => REFUSED,
+        kind::JOURNAL_FULL => JOURNAL_FULL,
+        kind::READS_ENDED => READS_ENDED,
         _ => return None,
     };
     Some(parts)
 }
+
+// The words for each kind of event.
+const START: &[Part] = &[
+    Words("the server starts as entity "),
+    Number(member::ID, "?"),
+];
+
+const END: &[Part] = &[Words("the server ends")];
+
+const PUT: &[Part] = &[
+    Words("put: "),
+    Names,
+    SomeOctets(", ", member::SIZE),
+    Words(", for entity "),
+    Number(member::PEER, "?"),
+    Words(" in class "),
+    Number(member::CLASS, "?"),
+    SomeNumber(", file ", member::QUEUED, " of the outbox"),
+];
+
+const STORED: &[Part] = &[Words("file "), Text(member::STATUS, "?")];
+
+const UNSENT: &[Part] = &[
+    Words("file "),
+    Number(member::QUEUED, "?"),
+    Words(" of the outbox is not sent: "),
+    Name(member::FILE),
+    Words(", for entity "),
+    Number(member::DESTINATION, "?"),
+    Words(": "),
+    Text(member::WHY, "?"),
+    SomeText(" (", member::REASON, ")"),
+];
+
+const HOLD: &[Part] = &[
+    Words("the link to entity "),
+    Number(member::ID, "?"),
+    Words(" is held"),
+];
+
+const RELEASE: &[Part] = &[
+    Words("the link to entity "),
+    Number(member::ID, "?"),
+    Words(" is released"),
+];
+
+const UNPARKED: &[Part] = &[
+    Words("parked datagrams dropped for want of room: "),
+    Number(member::COUNT, "?"),
+];
+
+const COMMAND: &[Part] = &[
+    Words("command "),
+    Text(member::WORDS, "?"),
+    Words(": "),
+    Text(member::ANSWER, "?"),
+    SomeText(" (", member::REASON, ")"),
+    Words(", from "),
+    Text(member::BY, "?"),
+    SomeNumber(" at seat ", member::SEAT, ""),
+];
+
+const SKIPPED: &[Part] = &[
+    Words("transaction numbers skipped toward entity "),
+    Number(member::DESTINATION, "?"),
+    Words(": "),
+    Number(member::COUNT, "?"),
+    SomeNumber(", the next one is ", member::NEXT, ""),
+];
+
+const REFUSED: &[Part] = &[
+    Words("refused: "),
+    Text(member::NAME, "?"),
+    SomeNumber(" ", member::FAULT, ""),
+    SomeNumber(", times ", member::COUNT, ""),
+    SomeText(", from ", member::FROM, ""),
+];
+
+const JOURNAL_FULL: &[Part] = &[Words("abandoned: its journal is full")];
+
+const READS_ENDED: &[Part] = &[Words("a worker stopped reading: its socket failed")];
