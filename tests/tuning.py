@@ -34,7 +34,9 @@ def write(name, size, seed=1):
 
 
 def received(one):
-    return {path.name: hashlib.sha256(path.read_bytes()).hexdigest() for path in one.received().iterdir()}
+    """What a station has stored, but for the parts of files that are being stored, which come and go."""
+    return {path.name: hashlib.sha256(path.read_bytes()).hexdigest() for path in one.received().iterdir()
+            if not path.name.startswith(".part-")}
 
 
 def remote(client):
