@@ -37,7 +37,7 @@
  * with threads.
  *
  * Memory. Blocks come from malloc, realloc and free of the program. When these fail, a call returns CFDP_NO_MEMORY, or
- * CFDP_REFUSED with refusal 12, and nothing has changed.
+ * CFDP_REFUSED with refusal 12, and nothing has changed, except that a Put's messages are gone.
  *
  * docs/embedding.md has two first programs, and says what is proved about each call.
  */

@@ -29,7 +29,7 @@ abbrev pub deposit_text : Option Deposit → List ℕ
 deposit_text None = []
 deposit_text (Some deposit) = codes "deposit " ++ (decimal deposit.stamp ++ codes "\n")
 
--- the lines for an event that was taken, a Put or another
+-- the lines for an event that was accepted, a Put or another
 abbrev pub done_text : Bool → Done → List ℕ
 done_text is_put done = codes "ok\n" ++ (opened_text is_put done.key ++ (pdus_text done.pdus ++ deposit_text done.deposit))
 

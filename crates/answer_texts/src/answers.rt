@@ -9,7 +9,7 @@ use pdu_values::Pdu;
 use std::alloc::{AllocError, Global};
 use txn_events::Pdus;
 
-/// Appends the lines for an event that was taken; for a Put, also the line of the transaction that it opened.
+/// Appends the lines for an event that was accepted; for a Put, also the line of the transaction that it opened.
 pub fn push_done(
     alloc: Global,
     text: &mut String,
@@ -75,7 +75,7 @@ pub fn push_refusal(text: &mut String, number: u8, name: &str) -> Result<(), All
     writeln!(text, "refused {number} {name}")
 }
 
-/// Appends the line for octets that are not a PDU the entity takes, with the number of the decode fault.
+/// Appends the line for octets that are not a PDU the entity accepts, with the number of the decode fault.
 pub fn push_decode_fault(text: &mut String, number: u8) -> Result<(), AllocError>
     ensures { OnOk result (string_bytes text.new ≡ string_bytes text.old ++ fault_line number) }
 {

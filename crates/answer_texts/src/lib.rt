@@ -1,4 +1,4 @@
-//! Prints an entity's answers: lines for its users' indications, and for events that were taken or refused.
+//! Prints an entity's answers: lines for its users' indications, and for events that were accepted or refused.
 #![tactic(auto)]
 
 mod answers;

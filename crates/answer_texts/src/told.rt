@@ -72,7 +72,7 @@ fn push_operands(alloc: Global, text: &mut String, said: &Indication) -> Result<
     }
 }
 
-// Appends what a Metadata-Recv tells.
+// Appends the operands of a Metadata-Recv.
 fn push_received(
     alloc: Global,
     text: &mut String,

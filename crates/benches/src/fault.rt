@@ -10,7 +10,7 @@ use txn_events::Refusal;
 /// Why a scenario does not run to its end.
 #[derive(Clone, Copy, Debug)]
 pub(crate) enum Fault {
-    /// The program takes the name of a scenario and its numbers.
+    /// The program's arguments are not the name of a scenario and its numbers.
     Usage,
     /// Memory ran out.
     NoMemory,
@@ -28,7 +28,7 @@ pub(crate) enum Fault {
     NotGiven,
     /// A lane gave up because its queue was full.
     NotSent,
-    /// A datagram was not taken.
+    /// A datagram was not accepted.
     NotTaken,
 }
 

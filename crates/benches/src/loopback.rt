@@ -20,7 +20,7 @@ const WINDOW: u32 = 32;
 // How many milliseconds an end waits for the other before it gives up.
 const PATIENCE_MS: u64 = 1_000;
 
-// Has a socket send to another, and wait for it no longer than that.
+// Has a socket send to another, and wait for it no longer than `PATIENCE_MS`.
 fn turn_to(socket: &UdpSocket, other: &UdpSocket) -> Result<(), Fault> {
     socket.connect(other.local_addr()?)?;
     socket.set_read_timeout(Some(Duration::from_millis(PATIENCE_MS)))?;
@@ -54,7 +54,7 @@ fn send_all(socket: &UdpSocket, datagram: &[u8], count: u32) {
     }
 }
 
-// Receives this many datagrams, unless the other end falls silent; answers how many arrived.
+// Receives this many datagrams, unless the other end falls silent. Returns how many arrived.
 fn take_all(socket: &UdpSocket, buffer: &mut [u8], count: u32) -> u32 {
     for number in 0..count {
         if socket.recv(buffer).is_err() {
@@ -67,7 +67,7 @@ fn take_all(socket: &UdpSocket, buffer: &mut [u8], count: u32) -> u32 {
     count
 }
 
-// Sends datagrams from one socket to another; answers how many arrived.
+// Sends datagrams from one socket to another, and returns how many arrived.
 fn send_over<R: Threads>(
     rt: &R,
     alloc: Global,

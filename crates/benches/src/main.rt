@@ -33,7 +33,7 @@ enum Scenario {
     Sizes(Sized),
     /// A core sends a file.
     SendsOnce,
-    /// A core sends a file again.
+    /// A core sends parts of a file again.
     Sends(Parts),
     /// Timers are armed and expire.
     Times,
@@ -47,10 +47,10 @@ enum Scenario {
     Blast,
 }
 
-/// A scenario and its numbers: the size of the file that a core receives or sends, or of the timers' list; or the offset
-/// of an octet, and how many cores receive one; or the
-/// capacity of a queue in bundles, and how many bundles each lane puts in; or how many threads deliver, and how many
-/// files each; or how many datagrams are sent, and how many octets each has.
+/// A scenario and its numbers: the size of the file that a core receives or sends, or of the timers' list; or the
+/// offset of an octet, and how many cores receive one; or the capacity of a queue in bundles, and how many bundles each
+/// lane puts in; or how many threads deliver, and how many files each; or how many datagrams are sent, and how many
+/// octets each has.
 #[derive(Clone, Copy)]
 struct Wanted {
     scenario: Scenario,
@@ -157,7 +157,7 @@ fn scenario_of(name: &str) -> Option<Scenario> {
     None
 }
 
-// Runs a scenario, and answers its count.
+// Runs a scenario, and returns its count.
 fn run<R: Threads + Wait + Net + AllocGlobal + Copy + Send + Sync>(
     rt: R,
     wanted: Wanted,

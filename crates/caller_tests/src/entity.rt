@@ -32,7 +32,8 @@ use std::marker::Brand;
 use std::test::*;
 use user_queues::Queues;
 
-// Whether a transaction that nobody put can't be cancelled. The proofs about an entity refer to its queues by the name `N`.
+// Whether a transaction that nobody put can't be cancelled. The proofs about an entity refer to its queues by the name
+// `N`.
 fn refuses<N: Names, R: Wait + Copy>(
     rt: R,
     alloc: Global,

@@ -25,22 +25,22 @@ use Rattle.cfdp_c.specs.Codes.{place_text, put_code}
 
 -- ---- events
 
--- the session was told the event, is behind the handle again, and its answer is in `done`
+-- the session received the event and is in the handle again, and the result is in `done`
 pub record IsHandled (old : Session) (after : Option Session) (event : WorldEvent) (done : FlatDone) : Type 0 where
   pub new : Session
   pub held : after ≡ Some new
   pub told : IsTold old event new
   pub done_is : done ≡ flat_done new.last
 
--- OK where the entity took the event, REFUSED where it refused it, and UNKNOWN, with nothing changed, where it has no
--- such user or lane
+-- OK where the entity accepted the event, REFUSED where it refused it, and UNKNOWN, with nothing changed, where it has
+-- no such user or lane
 abbrev pub IsAnswered : ℤ → Session → Option Session → WorldEvent → FlatDone → Type 0
 IsAnswered code old after event done =
     ((code ≡ OK) × IsHandled old after event done × (done.refusal ≡ 0))
     ⊎ ((code ≡ REFUSED) × IsHandled old after event done × (done.refusal ≡ 0 → ⊥))
     ⊎ ((code ≡ UNKNOWN) × (MayCome old.world.config event → ⊥) × (after ≡ Some old))
 
--- an event for a handle; one that is closed answers CLOSED and stays closed
+-- an event for a handle; for a closed one the call returns CLOSED, and the handle stays closed
 abbrev pub Answers : ℤ → Option Session → Option Session → WorldEvent → FlatDone → Type 0
 Answers code None after event done = (code ≡ CLOSED) × (after ≡ None)
 Answers code (Some old) after event done = IsAnswered code old after event done
@@ -95,14 +95,14 @@ abbrev pub IsGiven : {A : Type 0} → ℤ → Option A → A → Type 0
 IsGiven code None given = code ≡ NOTHING
 IsGiven code (Some thing) given = (code ≡ OK) × (given ≡ thing)
 
--- what is asked of a handle: one that is closed answers CLOSED
+-- a question to a handle; for a closed one the call returns CLOSED
 abbrev pub Asked : ℤ → Option Session → (Session → Type 0) → Type 0
 Asked code None holds = code ≡ CLOSED
 Asked code (Some session) holds = holds session
 
 -- ---- bundles and files
 
--- a user's bundle is taken and told, or none waits, or there is no such user
+-- a user's bundle is taken and reported, or none waits, or there is no such user
 abbrev pub Takes : ℤ → Option Session → Option Session → ℕ → FlatBundle → Type 0
 Takes code None after user bundle = (code ≡ CLOSED) × (after ≡ None)
 Takes code (Some old) after user bundle =
@@ -110,7 +110,7 @@ Takes code (Some old) after user bundle =
     ⊎ ((code ≡ NOTHING) × ((history : List Happening) → StandsAfter old.world history → held_for (first_lane old.world.config) history user ≡ []) × (after ≡ Some old))
     ⊎ ((code ≡ UNKNOWN) × (length old.world.config.users ≤ user) × (after ≡ Some old))
 
--- the file of a waiting deposit is kept and told, or there is none
+-- the file of a waiting deposit is kept and reported, or there is none
 abbrev pub Loads : ℤ → Option Session → Option Session → TxnKey → ℕ → FlatImage → Type 0
 Loads code None after key stamp image = (code ≡ CLOSED) × (after ≡ None)
 Loads code (Some old) after key stamp image =
@@ -142,7 +142,7 @@ Opens code None after text refused =
     ⊎ ((code ≡ NO_MEMORY) × (after ≡ None))
     ⊎ ((code ≡ BAD_CONFIG) × (after ≡ None) × refused)
 
--- whatever was behind the handle is freed
+-- whatever the handle held is freed
 abbrev pub Closes : ℤ → Option Session → Option Session → Type 0
 Closes code None after = (code ≡ CLOSED) × (after ≡ None)
 Closes code (Some old) after = (code ≡ OK) × (after ≡ None)

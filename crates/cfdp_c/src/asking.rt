@@ -15,7 +15,7 @@ use cfdp_session::{
 use cfdp_types::{EntityId, TxnKey};
 use std::alloc::Global;
 
-// Gives a thing, if there is one.
+// Writes a value to its place if there is one; otherwise returns `NOTHING`.
 fn give<T: Copy>(found: Option<T>, place: &mut T) -> i32
     ensures { IsGiven result found place.new }
 {
@@ -139,8 +139,8 @@ pub extern "C" fn cfdp_octets(
     code
 }
 
-/// Copies octets of the file that was asked for last, from an offset on, as many as there are and as the buffer holds: of
-/// its name at the sender (0), of its name at the receiver (1), or of its content (2).
+/// Copies octets of the file that was requested last, from an offset on, as many as there are and as the buffer holds:
+/// of its name at the sender (0), of its name at the receiver (1), or of its content (2).
 #[unsafe(no_mangle)]
 pub extern "C" fn cfdp_image_octets(
     alloc: Global,
@@ -162,7 +162,7 @@ pub extern "C" fn cfdp_image_octets(
     code
 }
 
-/// Says how many users the entity has.
+/// Reports how many users the entity has.
 #[unsafe(no_mangle)]
 pub extern "C" fn cfdp_users(alloc: Global, handle: &mut Handle, count: &mut usize) -> i32
     ensures asked { Asked result handle.old.owner.held (λ session. (result ≡ OK) × (count.new ≡ length session.world.config.users)) }
@@ -176,7 +176,7 @@ pub extern "C" fn cfdp_users(alloc: Global, handle: &mut Handle, count: &mut usi
     code
 }
 
-/// Says how many sending lanes each user has.
+/// Reports how many sending lanes each user has.
 #[unsafe(no_mangle)]
 pub extern "C" fn cfdp_put_lanes(alloc: Global, handle: &mut Handle, count: &mut usize) -> i32
     ensures asked { Asked result handle.old.owner.held (λ session. (result ≡ OK) × (count.new ≡ session.world.config.entity.put_lanes)) }
@@ -229,7 +229,8 @@ pub extern "C" fn cfdp_take(
     }
 }
 
-/// Gets the file of the waiting deposit with this stamp, and says how long it is. `REFUSED` comes with the reason.
+/// Gets the file of the waiting deposit with this key and this stamp, and reports the lengths of the file and its
+/// names. `REFUSED` comes with the reason.
 #[unsafe(no_mangle)]
 pub extern "C" fn cfdp_image(
     alloc: Global,

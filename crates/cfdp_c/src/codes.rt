@@ -1,4 +1,4 @@
-//! The codes that calls answer with, and what numbers of C stand for.
+//! The codes that calls return, and the meanings of numbers from C.
 ghost use Rattle.std.specs.Prelude.{◌≡◌};
 ghost use Rattle.cfdp_c.specs.Codes.{class_of, place_text, put_code, request_of, section_text, timer_kind};
 
@@ -9,7 +9,8 @@ use entity_routing::Request;
 /// The call did what it is for.
 pub const OK: i32 = 0;
 
-/// The entity refused the event, which changed nothing but the answer that is kept.
+/// The entity refused the event, or gave no file for this key and stamp. A refused event changes only the result that
+/// the handle keeps, except that a Put's messages are gone.
 pub const REFUSED: i32 = 1;
 
 /// There is no such thing: no bundle waits, or the index is too large.
@@ -21,13 +22,13 @@ pub const CLOSED: i32 = -1;
 /// The handle is open already.
 pub const OPEN: i32 = -2;
 
-/// Memory ran out; nothing changed.
+/// Memory ran out. Nothing changed, except that a Put's messages are gone.
 pub const NO_MEMORY: i32 = -3;
 
-/// The buffer is too small; nothing changed.
+/// The buffer is too small. The call reports how many octets there are, and changes nothing else.
 pub const NO_ROOM: i32 = -4;
 
-/// A number stands for nothing here: a class, a timer or a request.
+/// A class, a timer or a request has an unknown number.
 pub const BAD_NUMBER: i32 = -5;
 
 /// The entity has no such user, or the user no such sending lane.
@@ -48,7 +49,7 @@ pub const MESSAGE_TOO_LONG: i32 = -10;
 /// There are too many messages.
 pub const TOO_MANY_MESSAGES: i32 = -11;
 
-/// The timer of this number.
+/// The kind of timer with this number.
 pub(crate) fn timer_kind(number: u32) -> Option<TimerKind>
     ensures { result ≡ timer_kind number }
 {
@@ -72,7 +73,7 @@ pub(crate) fn class_of(number: u32) -> Option<Class>
     }
 }
 
-/// The user's request of this number.
+/// The user's request with this number, on a transaction.
 pub(crate) fn request_of(number: u32, key: TxnKey) -> Option<Request>
     ensures { result ≡ request_of number key }
 {

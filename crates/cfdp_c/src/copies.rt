@@ -4,7 +4,8 @@ ghost use Rattle.cfdp_c.specs.Calls.{IsCopied, IsCut};
 
 use crate::codes::{NO_ROOM, NOTHING, OK};
 
-/// Copies octets to the beginning of the buffer, if there are any and it has room, and says how many there are.
+/// Copies octets to the beginning of the buffer, if there are any and the buffer has room for all of them. Reports how
+/// many there are, even where the buffer has no room.
 pub(crate) fn copy(octets: Option<&[u8]>, buffer: &mut [u8], len: &mut usize) -> i32
     ensures { IsCopied result (option_copied octets.entry) (length buffer.old) buffer.new len.new }
 {
@@ -20,7 +21,8 @@ pub(crate) fn copy(octets: Option<&[u8]>, buffer: &mut [u8], len: &mut usize) ->
     OK
 }
 
-/// Copies octets from an offset on to the beginning of the buffer, as many as there are and as it holds.
+/// Copies octets from an offset on to the beginning of the buffer, as many as there are and as the buffer holds.
+/// Reports how many it copied.
 pub(crate) fn cut(octets: Option<&[u8]>, offset: usize, buffer: &mut [u8], len: &mut usize) -> i32
     ensures { IsCut result (option_copied octets.entry) offset (length buffer.old) buffer.new len.new }
 {

@@ -1,4 +1,4 @@
-//! Events for the entity behind a handle.
+//! Events for the entity of a handle.
 ghost use Rattle.std.specs.Prelude.{◌≡◌, ◌⊎◌};
 ghost use Rattle.entity_routing.specs.declared.world_event.WorldEvent.TheVariants as events;
 ghost use Rattle.cfdp_c.specs.Codes.{request_of, timer_kind};
@@ -14,7 +14,7 @@ use cfdp_types::{EntityId, Octets, TxnKey};
 use std::alloc::Global;
 use world_core::WorldEvent;
 
-/// Passes an event to the entity behind the handle.
+/// Passes an event to the entity of the handle, and reports the result.
 pub(crate) fn tell(
     alloc: Global,
     handle: &mut Handle,

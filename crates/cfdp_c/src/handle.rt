@@ -4,7 +4,7 @@ ghost use Rattle.cfdp_c.specs.Owned.{is_full};
 
 use crate::owner::Owner;
 
-/// A handle. C makes one of zeros, which is closed, and hands its address to each call.
+/// A handle. C fills it with zeros, which makes it a closed handle, and passes its address to each call.
 #[repr(C)]
 #[derive(Drop)]
 pub struct Handle {

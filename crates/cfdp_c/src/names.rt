@@ -7,7 +7,7 @@ ghost use Rattle.cfdp_c.specs.Names.{code_text, refusal_text};
 use crate::codes::NOTHING;
 use crate::copies::copy;
 
-/// The version of the interface: it changes where a program would have to be compiled again.
+/// The version of the interface. It changes whenever programs must be compiled again.
 pub const VERSION: u32 = 1;
 
 // The name of a code.

@@ -20,7 +20,7 @@ enum Unopened {
     BadConfig,
 }
 
-// The number of a fault, and the name of its place.
+// Reports the number of a fault, and the name of its place.
 fn tell_fault(why: ConfigFault, fault: &mut u32, place: &mut [u8], len: &mut usize)
     ensures number { fault.new ≡ fault_number why }
     ensures length { len.new ≡ length (place_text why) }
@@ -30,7 +30,7 @@ fn tell_fault(why: ConfigFault, fault: &mut u32, place: &mut [u8], len: &mut usi
     let _code = copy(Some(place_text(why).as_bytes()), place, len);
 }
 
-// A session with this configuration, on the heap.
+// Makes a session with this configuration, on the heap.
 fn made(
     alloc: Global,
     text: &[u8],
@@ -55,8 +55,8 @@ fn made(
     }
 }
 
-/// Opens a closed handle: an entity with this configuration, a text in TOML. `BAD_CONFIG` comes with the fault's number
-/// and the name of the key or table where it is, as far as `place` has room.
+/// Opens a closed handle with a new entity, whose configuration is this TOML text. `BAD_CONFIG` comes with the fault's
+/// number and the name of the key or table where it is. The name is copied only if `place` has room for it.
 #[unsafe(no_mangle)]
 pub extern "C" fn cfdp_open(
     alloc: Global,

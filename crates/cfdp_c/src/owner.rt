@@ -1,4 +1,4 @@
-// The right to a session on the heap, as C holds it: a pointer whose type says nothing.
+// The right to a session on the heap, as C holds it: an untyped pointer.
 ghost use Rattle.std.specs.Prelude.{◌≡◌, true, Option};
 ghost use Rattle.cfdp_session.specs.declared.session.Session.{Session};
 ghost use Rattle.cfdp_c.specs.Owned.{owned, is_full};
@@ -19,7 +19,7 @@ impl Model for Owner {
     ghost also_owns = { λ o. owned o.at o.held };
 }
 
-// C may hand a handle to another thread, in order.
+// C may move a handle to another thread, under a lock. One thread uses it at a time.
 unsafe impl Send for Owner {}
 
 impl Owner {

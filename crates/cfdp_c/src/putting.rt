@@ -34,7 +34,7 @@ pub extern "C" fn cfdp_message(alloc: Global, handle: &mut Handle, octets: &[u8]
     }
 }
 
-/// A user puts a file, from this one of its sending lanes, with the messages that were added before.
+/// A user puts a file on this one of its sending lanes, with the messages that were added before.
 #[unsafe(no_mangle)]
 pub extern "C" fn cfdp_put(
     alloc: Global,

@@ -5,7 +5,7 @@ use script_explained::push_datagram;
 use std::alloc::Global;
 use std::io::Write;
 
-/// Prints what the datagram says that a word writes in hex: a line for its header and one for its body, or one for the
+/// Prints what a datagram, given as a word in hex, says: a line for its header and one for its body, or one for the
 /// fault of decoding it. Returns the exit status: 1 for such a fault.
 pub(crate) fn explain<W: Write>(
     alloc: Global,

@@ -27,7 +27,7 @@ const SHOWN: &str = "\r3 of 3 octets sent, waiting for the end
 ";
 
 // Puts that nobody at the remote's address answers: in class 2 the file is not acknowledged, and in class 1 with
-// closure no Finished PDU comes. Each with its user's indications.
+// closure no Finished PDU is received. Each with its user's indications.
 const UNANSWERED: [(&str, &str); 2] = [
     (
         "cfdp_put --config nobody --bind 127.0.0.1:0 --user alice --remote 2 --class 2 n b",

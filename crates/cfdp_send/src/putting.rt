@@ -24,7 +24,7 @@ use std::thread::Threads;
 use std::time::Clock;
 
 /// Puts one file from its user's first lane by the command line, whose first word is the program's own name. Prints the
-/// user's indications until the transaction has ended. Answers the exit status: 0 if the receiver has the whole file, 2
+/// user's indications until the transaction has ended. Returns the exit status: 0 if the receiver has the whole file, 2
 /// after another end, and 1 if the program ended too early, which is reported to `errors`. With `explains`, for a
 /// person who reads `errors`, a second line there explains the fault, as after a check of the configuration.
 pub fn put_one<

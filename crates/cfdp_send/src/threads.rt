@@ -98,7 +98,7 @@ pub(crate) fn put_over<
 }
 
 // Puts a file with a desk whose memory is reserved; that of the threads is, too, before the first one starts. The
-// worker has the main thread handle each step within a millisecond, since only that thread takes the user's
+// worker has the main thread handle each step within a millisecond, because only that thread takes the user's
 // indications.
 fn put_at<
     'x,
@@ -250,8 +250,8 @@ impl<'a, N: Names, R: Wait + Clock + Files + AllocGlobal + Copy + Drop, W: Drop,
         }
     }
 
-    // Abandons the Put's transaction where its journal is full, so that it can't end by itself. Where memory or room in the user's
-    // queue runs out, that is tried again.
+    // Abandons the Put's transaction if its journal is full, because it can't end by itself then. If memory or room in
+    // the user's queue runs out, that is tried again.
     fn abandon_full(&mut self, key: TxnKey) {
         let Some(full) = self.station.take_full() else {
             return;
@@ -277,7 +277,7 @@ impl<'a, N: Names, R: Wait + Clock + Files + AllocGlobal + Copy + Drop, W: Drop,
         }
     }
 
-    // Refuses a file that this entity has received; answers whether there was one.
+    // Refuses a file that this entity has received; returns whether there was one.
     fn refuse_files(&mut self, now: u64) -> bool {
         let turn = self.storer.turn(now);
         for _ in self.rt.forever() {
@@ -288,7 +288,7 @@ impl<'a, N: Names, R: Wait + Clock + Files + AllocGlobal + Copy + Drop, W: Drop,
         turn == StorerTurn::Worked
     }
 
-    // Takes the bundle at the front of the user's queue, if there is one, and adds its lines; answers the exit status
+    // Takes the bundle at the front of the user's queue, if there is one, and adds its lines; returns the exit status
     // if it ends the transaction.
     fn take_one(&mut self, key: TxnKey, text: &mut String) -> Result<Option<u8>, ProgramFault> {
         let config = self.station.entity().config();

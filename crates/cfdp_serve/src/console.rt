@@ -12,7 +12,7 @@ pub(crate) enum Console<'a, W: Drop> {
 }
 
 impl<'a, W: Write + Drop> Console<'a, W> {
-    // The clients' seats, where there are clients.
+    // The clients' seats, if there are clients.
     fn seats(&self) -> Option<&'a Seats> {
         match self {
             Console::Printed(_) => None,
@@ -36,7 +36,7 @@ impl<'a, W: Write + Drop> Console<'a, W> {
         }
     }
 
-    // Prints a text, where texts are printed.
+    // Prints a text, if replies are printed.
     fn print(&mut self, text: &str) -> Result<(), ProgramFault> {
         match self {
             Console::Printed(writer) => print(writer, text),
@@ -45,8 +45,8 @@ impl<'a, W: Write + Drop> Console<'a, W> {
     }
 }
 
-// Sends a reply to the client that asked, with the line that ends it. If memory for that line runs out, the client is cut
-// off.
+// Sends a reply to the client that asked, with the line that ends it. If memory for that line runs out, the client is
+// cut off.
 fn send<R: Wait>(rt: &R, seats: &Seats, asker: Option<Asker>, text: &mut String) {
     let Some(asker) = asker else {
         return;

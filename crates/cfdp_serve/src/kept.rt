@@ -23,8 +23,8 @@ pub(crate) struct Kept<R: Files + AllocGlobal + Drop> {
 }
 
 impl<R: Net + Clock + Files + AllocGlobal + Copy + Drop> Kept<R> {
-    /// Opens the files that the words name. What waited in the outbox when the last run stopped, or was under way from there,
-    /// waits again. If the outbox can't be opened, the file of numbers is released.
+    /// Opens the files that the words name. What waited in the outbox when the last run stopped, or was under way from
+    /// there, waits again. If the outbox can't be opened, the file of numbers is released.
     pub(crate) fn open(
         rt: &R,
         alloc: Global,
@@ -51,7 +51,7 @@ impl<R: Net + Clock + Files + AllocGlobal + Copy + Drop> Kept<R> {
     }
 }
 
-/// That no other server uses the file of an outbox: a socket beside it, where nobody is let in.
+/// Keeps other servers from the file of an outbox: a socket beside it, where nobody is let in.
 #[derive(Drop)]
 pub(crate) struct OutboxHold {
     socket: ControlSocket,
@@ -78,7 +78,7 @@ impl OutboxHold {
     }
 }
 
-// The outbox in memory and its file, where the words name one.
+// The outbox in memory and its file, if the words name one.
 fn outbox_of<R: Clock + Files + AllocGlobal + Copy + Drop>(
     rt: &R,
     alloc: Global,
@@ -99,7 +99,7 @@ fn outbox_of<R: Clock + Files + AllocGlobal + Copy + Drop>(
     Ok((outgoing, Some(held)))
 }
 
-// The fault of a start whose outbox has one.
+// The fault of a start, by that of its outbox.
 fn fault_of(why: HeldFault) -> ProgramFault {
     match why {
         HeldFault::NoMemory => ProgramFault::NoMemory,

@@ -35,12 +35,12 @@ pub struct Streams<I: Drop, W: Drop> {
     pub writer: W,
 }
 
-/// Runs the server by its command line, whose first word is the program's own name, until `quit` or the end of the commands
-/// that `streams.reader` gives. The replies go to `streams.writer`, and why it ended too early to `errors`. The result is the exit
-/// status: 0, or 1 if it ended too early. If the output can't be written, it ends once the reader has given one more line or its
-/// end. With a control socket clients command it, and neither of the streams is used. Files to be sent are read by `files`,
-/// beside the main thread. If a person reads `errors`, or `--explain` is given, a second line there explains the fault, as it does
-/// after a check of the configuration.
+/// Runs the server by its command line, whose first word is the program's own name, until `quit` or the end of the
+/// commands that `streams.reader` gives. The replies go to `streams.writer`, and why it ended too early to `errors`.
+/// Returns the exit status: 0, or 1 if it ended too early. If the output can't be written, it ends once the reader has
+/// given one more line or its end. With a control socket clients command it, and neither of the streams is used. Files
+/// to be sent are read by `files`, beside the main thread. If a person reads `errors`, or `--explain` is given, a
+/// second line there explains the fault, as it does after a check of the configuration.
 pub fn serve<
     R: Threads + Wait + Net + Clock + Files + AllocGlobal + Copy + Drop + Send + Sync,
     F: FileReader + ServerFiles + Sync,
@@ -77,7 +77,7 @@ pub fn serve<
     }
 }
 
-// Reads the configuration alone. Where files wait for each other's lanes, `errors` says so.
+// Checks only the configuration. If files wait for each other's lanes, `errors` says so.
 fn check<R: Files, W: Write + Drop, E: Write>(
     rt: &R,
     alloc: Global,
@@ -102,13 +102,13 @@ fn check<R: Files, W: Write + Drop, E: Write>(
     }
 }
 
-// Prints the help or the version, where a line asks for it.
+// Prints the help or the version, if the line asks for it.
 fn tell_about<W: Write>(writer: &mut W, fault: WordsFault) -> Result<u8, ProgramFault> {
     print(writer, asked_text(fault, server_help(), server_version())?)?;
     Ok(0)
 }
 
-// Prints what a fault means, where there is memory for it.
+// Prints what a fault means, if there is memory for it.
 fn explain<R: Net + Files, E: Write>(
     rt: &R,
     alloc: Global,
@@ -152,7 +152,7 @@ fn push_meaning<R: Net + Files>(
     }
 }
 
-// Adds why a program that was started like that has a fault: where the line asks for it, exactly what is wrong and where.
+// Adds why a program that was started like that has a fault: if the line asks for it, exactly what is wrong and where.
 fn push_why<R: Net + Files>(
     rt: &R,
     alloc: Global,
@@ -167,7 +167,7 @@ fn push_why<R: Net + Files>(
     }
 }
 
-// Prints which paths can't be used from the start, where the line asks for explanations.
+// Prints which paths can't be used from the start, if the line asks for explanations.
 fn note_paths<R: Files, E: Write>(rt: &R, alloc: Global, errors: &mut E, line: &[String]) {
     if let Ok(words) = server_words(alloc, line)
         && words.explain
@@ -179,7 +179,8 @@ fn note_paths<R: Files, E: Write>(rt: &R, alloc: Global, errors: &mut E, line: &
     }
 }
 
-// Adds which word of the server's line is wrong. Where each is taken, the configuration doesn't have what one names.
+// Adds which word of the server's line is wrong. If each is right in itself, the configuration doesn't have what one
+// names.
 fn push_complaint(alloc: Global, text: &mut String, line: &[String]) -> Result<(), AllocError> {
     let before = text.len();
     push_server_complaint(alloc, text, line)?;
@@ -243,7 +244,7 @@ fn start<
     }
 }
 
-// Serves while no other server uses the file of its outbox, where it has one.
+// Serves, and meanwhile keeps other servers from the file of its outbox, if it has one.
 fn serve_alone<
     'x,
     R: Threads + Wait + Net + Clock + Files + AllocGlobal + Copy + Drop + Send + Sync,

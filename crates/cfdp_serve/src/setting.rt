@@ -36,7 +36,7 @@ pub(crate) fn set_links<N: Names, R: Wait + Clock + Copy>(
     }
 }
 
-// Nothing leaves for any remote entity until it is released.
+// Holds the links to all remote entities: nothing leaves for any of them until it is released.
 fn hold_all<N: Names, R: Wait + Clock + Copy>(rt: &R, station: &mut Station<'_, N, R>) {
     let config = station.entity().config();
     for place in 0..config.remotes() {

@@ -36,7 +36,7 @@ const STEPS: usize = 1_024;
 
 const LINES: usize = PLACES;
 
-/// What a server starts from: its runtime, who reads files to be sent, and the words of its command line.
+/// What a server starts from: its runtime, what reads files to be sent, and the words of its command line.
 #[derive(Drop)]
 pub(crate) struct Starting<'x, R, F> {
     pub(crate) rt: &'x R,
@@ -61,7 +61,7 @@ pub(crate) struct Given<R: Files + AllocGlobal + Drop, I: Drop, W: Drop> {
     pub(crate) writer: W,
 }
 
-/// Serves over an opened entity and its socket until the commands end; the exit status then.
+/// Serves over an opened entity and its socket until the commands end. Returns the exit status.
 pub(crate) fn serve_over<
     N: Names + Send + Sync,
     R: Threads + Wait + Clock + Files + AllocGlobal + Copy + Drop + Send + Sync,
@@ -304,7 +304,7 @@ fn common_of<'x, N: Names, R: Copy, F>(opened: &Opened<'x, N, R, F>) -> Common<'
     }
 }
 
-// The way in of a server's datagrams. What users receive is looked at within a millisecond where it is taken as it comes.
+// The way in of a server's datagrams. What users receive is looked at within a millisecond, if it is taken as it comes.
 fn way_in_of<'x, N: Names, R: Wait + Clock + Copy, F>(
     opened: &Opened<'x, N, R, F>,
 ) -> Result<WayIn<'x, R>, ProgramFault> {
@@ -425,7 +425,7 @@ fn station_over<'x, N: Names, R: Wait + Clock + Files + AllocGlobal + Copy + Dro
     Ok(station)
 }
 
-// What the thread begins with that stores received files.
+// What the thread that stores received files begins with.
 fn storing_over<'x, N: Names, R: Copy, F>(
     opened: &Opened<'x, N, R, F>,
 ) -> Result<FolderStoring<'x, N, R>, AllocError> {

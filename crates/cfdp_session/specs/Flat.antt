@@ -54,7 +54,7 @@ phase_code phase.Suspended = 2
 phase_code phase.Storing = 3
 phase_code phase.Closing = 4
 
--- ---- the answer to an event
+-- ---- the result of an event
 
 -- 1 for a deposit
 abbrev pub deposit_flag : Option Deposit → ℕ
@@ -71,7 +71,7 @@ abbrev pub fault_in : EntityRefusal → ℕ
 fault_in (answer.Route why) = decoding why
 fault_in _ = 0
 
--- an answer by its counts and numbers; a refusal may have a PDU to send, too
+-- the counts and numbers of a result; a refusal may have a PDU to send, too
 abbrev pub flat_done : Last → FlatDone
 flat_done None = record { source = 0; seq = 0; pdus = 0; timers = 0; refusal = 0; fault = 0; deposit = 0 }
 flat_done (Some (Ok done)) =

@@ -11,7 +11,7 @@ use Rattle.lane_table.specs.declared.done.Done.{Done}
 use Rattle.entity_parts.specs.declared.refusal.EntityRefusal.{EntityRefusal}
 use Rattle.entity_parts.specs.declared.refusal.EntityRefusal.TheVariants as answer
 
--- the last event's answer, if there was one
+-- the last event's result, if there was one
 abbrev pub Last : Type 0
 Last = Option (Result Done EntityRefusal)
 
@@ -51,7 +51,7 @@ abbrev pub parts_at : Option Indication → List (List ℕ)
 parts_at (Some indication) = parts_of indication
 parts_at None = []
 
--- the octets of a file that was asked for: both names, then the content
+-- the octets of a file that was requested: both names, then the content
 abbrev pub image_parts : Option Image → List (List ℕ)
 image_parts (Some image) = image.source_name ∷ image.destination_name ∷ image.octets ∷ []
 image_parts None = []

@@ -10,6 +10,6 @@ abbrev pub put_to : EntityId → Class → Bool → List ℕ → List ℕ → Li
 put_to destination class closure source_name destination_name file messages =
     record { destination = destination; class = class; closure = closure; source_name = source_name; destination_name = destination_name; messages = messages; file = file }
 
--- the same by an order
+-- the same, from an order
 abbrev pub put_of : Order → List (List ℕ) → PutValue
 put_of order = put_to order.destination order.class order.closure order.source_name.now order.destination_name.now order.file.now

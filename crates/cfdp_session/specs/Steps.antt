@@ -23,7 +23,7 @@ pub record IsOpened (text : List ℕ) (session : Session) : Type 0 where
   pub image : session.image ≡ None
   pub messages : session.messages ≡ []
 
--- the entity answers an event, whatever its history, and the session keeps the answer in place of the last one
+-- the entity handles an event, whatever its history, and the session keeps the result in place of the last one
 pub record IsTold (old : Session) (event : WorldEvent) (new : Session) : Type 0 where
   pub result : Result Done EntityRefusal
   pub kept : new.last ≡ Some result
@@ -44,14 +44,14 @@ pub record IsTaken (old : Session) (user : ℕ) (new : Session) : Type 0 where
   pub config : new.world.config ≡ old.world.config
   pub others : new ≡ record old { world = new.world; front = Some bundle }
 
--- the file of the waiting deposit is kept in place of the last one, and told by its lengths
+-- the file of the waiting deposit is kept in place of the last one, and its lengths are reported
 pub record IsLoaded (old : Session) (key : TxnKey) (stamp : ℕ) (new : Session) (flat : FlatImage) : Type 0 where
   pub image : Image
   pub found : (history : List Happening) → StandsAfter old.world history → IsImage old.world history key stamp (key_place old.world.config key) (Ok image)
   pub kept : new ≡ record old { image = Some image }
   pub told : flat ≡ flat_image image
 
--- there is no such file, for the reason that is told
+-- there is no such file, for the reason that is reported
 pub record IsMissing (world : WorldValue) (key : TxnKey) (stamp : ℕ) (flat : FlatImage) : Type 0 where
   pub why : EntityRefusal
   pub missing : (history : List Happening) → StandsAfter world history → IsImage world history key stamp (key_place world.config key) (Err why)

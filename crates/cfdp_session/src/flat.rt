@@ -1,4 +1,4 @@
-//! Answers as flat structs: numbers alone, with what is of variable size left out.
+//! Results as flat structs of numbers. What has a variable size is left out.
 ghost use Rattle.std.specs.Prelude.{◌≡◌, length};
 ghost use Rattle.cfdp_session.specs.Kept.{pdus_of};
 ghost use Rattle.cfdp_session.specs.Flat.{delivery_code, deposit_flag, fault_in, kind_code, phase_code, status_code};
@@ -9,7 +9,7 @@ use entity_routing::RouteRefusal;
 use indications::{Bundle, Indication, Phase};
 use lane_table::Done;
 
-/// What a step answered: how much of each kind it left, or why the event was refused.
+/// The result of a step: how much of each kind it left, or why the event was refused.
 #[repr(C)]
 #[derive(Clone, Copy)]
 pub struct FlatDone {
@@ -20,9 +20,9 @@ pub struct FlatDone {
     pub pdus: usize,
     /// The number of timer operations.
     pub timers: usize,
-    /// The refusal's number, 0 where the event was taken.
+    /// The refusal's number, 0 where the event was accepted.
     pub refusal: u32,
-    /// The decoding fault's number, if that is the reason.
+    /// The decoding fault's number if the event was refused for one, otherwise 0.
     pub fault: u32,
     /// 1 where a file waits for the file store, otherwise 0.
     pub deposit: u32,
@@ -51,7 +51,7 @@ pub struct FlatDeposit {
     pub stamp: u32,
 }
 
-/// The lengths of a received file and of its names, or why there is none.
+/// The lengths of a received file and of its names in octets, or why there is none.
 #[repr(C)]
 #[derive(Clone, Copy)]
 pub struct FlatImage {
@@ -96,7 +96,7 @@ impl FlatIndication {
     ghost use Rattle.std.specs.Prelude.{◌≡◌};
     ghost use Rattle.cfdp_session.specs.Flat.{bare, flat_indication};
 
-    // A kind, with no other number.
+    // An indication of this kind whose other numbers are all 0.
     fn bare(kind: u32) -> FlatIndication
         ensures { result ≡ bare kind }
     {
@@ -115,7 +115,7 @@ impl FlatIndication {
         }
     }
 
-    // An indication with a condition and how far the transaction is.
+    // An indication with a condition and the transaction's progress.
     fn at(kind: u32, condition: Condition, progress: u32) -> FlatIndication
         ensures { result ≡ record (bare kind) { condition = condition; progress = progress } }
     {
@@ -126,7 +126,7 @@ impl FlatIndication {
         }
     }
 
-    /// An indication by its numbers.
+    /// The numbers of an indication.
     pub fn of(indication: &Indication) -> FlatIndication
         ensures { result ≡ flat_indication indication.now }
     {
@@ -184,7 +184,7 @@ impl FlatDone {
     ghost use Rattle.cfdp_session.specs.Kept.{Last, pdus_of};
     ghost use Rattle.cfdp_session.specs.Flat.{flat_done};
 
-    /// No event yet.
+    /// All numbers before the first event: each is 0.
     pub const NONE: FlatDone = FlatDone {
         source: 0,
         seq: 0,
@@ -195,7 +195,7 @@ impl FlatDone {
         deposit: 0,
     };
 
-    // A step by its counts.
+    // The counts of a step.
     fn of_step(done: &Done) -> FlatDone
         ensures { result ≡ flat_done (Some (Ok done.now)) }
     {
@@ -210,7 +210,7 @@ impl FlatDone {
         }
     }
 
-    // A refusal by its numbers.
+    // The numbers of a refusal.
     fn of_refusal(why: &EntityRefusal) -> FlatDone
         ensures { result ≡ flat_done (Some (Err why.now)) }
     {
@@ -222,7 +222,7 @@ impl FlatDone {
         }
     }
 
-    /// An answer by its counts and numbers.
+    /// The counts and numbers of a result.
     pub fn of(last: &Option<Result<Done, EntityRefusal>>) -> FlatDone
         ensures { result ≡ flat_done last.now }
     {
@@ -234,7 +234,7 @@ impl FlatDone {
     }
 }
 
-// The number of PDUs that answer a refused event.
+// The number of echoes of a refused event, 0 or 1.
 fn echoes(why: &EntityRefusal) -> usize
     ensures { result ≡ length (pdus_of (Some (Err why.now))) }
 {
@@ -257,7 +257,7 @@ fn fault_in(why: &EntityRefusal) -> u32
     }
 }
 
-// Whether there is a deposit.
+// 1 where there is a deposit, otherwise 0.
 fn deposit_flag(deposit: &Option<Deposit>) -> u32
     ensures { result ≡ deposit_flag deposit.now }
 {
@@ -271,7 +271,7 @@ impl FlatTimer {
     ghost use Rattle.std.specs.Prelude.{◌≡◌};
     ghost use Rattle.cfdp_session.specs.Flat.{flat_timer};
 
-    /// A timer operation by its numbers.
+    /// The numbers of a timer operation.
     pub fn of(op: &TimerOp) -> FlatTimer
         ensures { result ≡ flat_timer op.now }
     {
@@ -305,7 +305,7 @@ impl FlatDeposit {
     ghost use Rattle.std.specs.Prelude.{◌≡◌};
     ghost use Rattle.cfdp_session.specs.Flat.{flat_deposit};
 
-    /// A deposit by its numbers.
+    /// The numbers of a deposit.
     pub fn of(deposit: Deposit) -> FlatDeposit
         ensures { result ≡ flat_deposit deposit }
     {
@@ -321,7 +321,7 @@ impl FlatImage {
     ghost use Rattle.std.specs.Prelude.{◌≡◌};
     ghost use Rattle.cfdp_session.specs.Flat.{flat_image, flat_missing};
 
-    /// A file by its lengths.
+    /// The lengths of a file and of its names.
     pub fn of(image: &Image) -> FlatImage
         ensures { result ≡ flat_image image.now }
     {
@@ -333,7 +333,7 @@ impl FlatImage {
         }
     }
 
-    /// No file, and why.
+    /// The refusal's number where there is no file; each length is 0.
     pub fn missing(why: &EntityRefusal) -> FlatImage
         ensures { result ≡ flat_missing why.now }
     {
@@ -350,7 +350,7 @@ impl FlatBundle {
     ghost use Rattle.std.specs.Prelude.{◌≡◌};
     ghost use Rattle.cfdp_session.specs.Flat.{flat_bundle};
 
-    /// A bundle by its numbers.
+    /// The numbers of a bundle.
     pub fn of(bundle: &Bundle) -> FlatBundle
         ensures { result ≡ flat_bundle bundle.now }
     {

@@ -1,4 +1,4 @@
-//! An entity with what its last step left, for callers who ask for that piece by piece: a Session round a World.
+//! A Session: an entity (a World) with what its last step left, for callers that fetch it piece by piece.
 #![tactic(auto)]
 
 mod flat;

@@ -1,10 +1,10 @@
-//! A user's wish to send a file, still without messages.
+//! A user's request to send a file, without its messages.
 ghost use Rattle.std.specs.Prelude.{◌≡◌, IfOk, map};
 
 use cfdp_types::{Class, EntityId, Octets, PutFault, PutRequest};
 use std::alloc::{AllocError, Global};
 
-/// The file to send and where to: as in a Put request, whose limits it need not keep.
+/// The file to send and its destination, as in a Put request. It may exceed a Put request's limits.
 #[derive(Clone, Copy)]
 pub struct Order<'a> {
     pub destination: EntityId,
@@ -21,7 +21,7 @@ impl Order<'_> {
     ghost use Rattle.cfdp_types.specs.Put.{put_fault};
     ghost use Rattle.cfdp_session.specs.Orders.{put_of};
 
-    /// The Put request with these messages.
+    /// Makes the Put request with these messages.
     pub(crate) fn put(&self, alloc: Global, messages: &[Octets]) -> Result<PutRequest, PutFault>
         ensures made { IfOk result (λ put. put ≡ put_of self.now messages.now) }
         ensures refused { IfErr result (λ fault. (fault ≡ PutFault.NoMemory)

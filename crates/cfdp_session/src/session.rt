@@ -13,7 +13,7 @@ use std::alloc::{AllocError, Global};
 use std::{mem, str};
 use world_core::{EntityRefusal, World, WorldEvent};
 
-/// How a user's wish to take a bundle ends.
+/// The result of taking a bundle from a user's queue.
 #[derive(Clone, Copy, Debug, PartialEq, Eq)]
 pub enum Taking {
     /// The bundle at the front was taken.
@@ -24,16 +24,16 @@ pub enum Taking {
     NoUser,
 }
 
-/// An entity, and what its caller may still ask for. Everything is kept until the next event, the next bundle, the next
-/// file or the next Put replaces it.
+/// An entity, and what its caller may still fetch. Each part is kept until another replaces it: the next event's
+/// result, the next bundle or the next file. The next Put takes the messages.
 #[derive(Drop)]
 pub struct Session {
     pub world: World,
-    /// The last event's answer.
+    /// The last event's result.
     pub last: Option<Result<Done, EntityRefusal>>,
     /// The bundle that was taken last.
     pub front: Option<Bundle>,
-    /// The received file that was asked for last.
+    /// The received file that was requested last.
     pub image: Option<Image>,
     /// The messages for the next Put.
     pub messages: Messages,
@@ -52,7 +52,8 @@ impl Session {
     ghost use Rattle.cfdp_session.specs.Orders.{put_of};
     ghost use Rattle.cfdp_session.specs.Steps.{IsLoaded, IsMissing, IsOpened, IsTaken, IsTold};
 
-    /// A session with a new entity, by its configuration's text in TOML. Octets that are no text are `BadToml`.
+    /// Opens a session with a new entity, whose configuration is this TOML text. Octets that are not UTF-8 are
+    /// `BadToml`.
     pub fn open(alloc: Global, text: &[u8]) -> Result<Session, ConfigFault>
         ensures opened { IfOk result (IsOpened text.now) }
         ensures refused { IfErr result (λ fault. (fault ≡ ConfigFault.NoMemory) ⊎ (fault ≡ ConfigFault.BadToml) ⊎ (config_of text.now ≡ Err fault)) }
@@ -70,8 +71,8 @@ impl Session {
         })
     }
 
-    /// Passes an event to the entity, and keeps the answer. Answers false, and changes nothing, only for a request that
-    /// names a user or a sending lane which the entity does not have.
+    /// Passes an event to the entity and keeps the result. Returns false, and changes nothing, only for a request that
+    /// names a user or a sending lane that the entity does not have.
     pub fn tell(&mut self, event: &WorldEvent) -> bool
         ensures told { result ≡ true → IsTold self.old event.now self.new }
         ensures never { result ≡ false → MayCome self.old.world.config event.now → ⊥ }
@@ -105,8 +106,8 @@ impl Session {
         }
     }
 
-    /// Gets the file of the waiting deposit with this key and this stamp, and keeps it. An error says why there is none;
-    /// then nothing changes.
+    /// Gets the file of the waiting deposit with this key and this stamp, and keeps it. An error says why there is
+    /// none; then nothing changes.
     pub fn load(&mut self, key: TxnKey, stamp: u32) -> Result<FlatImage, FlatImage>
         ensures loaded { IfOk result (IsLoaded self.old key stamp self.new) }
         ensures refused { IfErr result (IsMissing self.old.world key stamp) }
@@ -122,26 +123,15 @@ impl Session {
         }
     }
 
-    /// The last event's answer, by its counts and numbers.
+    /// The counts and numbers of the last event's result.
     pub fn done(&self) -> FlatDone
         ensures { result ≡ flat_done self.now.last }
     {
         FlatDone::of(&self.last)
     }
 
-    /// The octets of an echo, if there is one.
-    fn echoed(alloc: Global, echo: &Option<Echo>) -> Result<Option<Vec<u8>>, AllocError>
-        ensures { IfOk result (λ octets. option_map (λ o. o.items) octets ≡ option_map spelling.written echo.now) }
-    {
-        let Some(echo) = echo else {
-            return Ok(None);
-        };
-        let mut octets = Vec::new(alloc);
-        encode(&echo.pdu(), &mut octets)?;
-        Ok(Some(octets))
-    }
-
-    // The octets of a PDU that the last event left to send, if it left so many.
+    /// The octets of the PDU at `index` among those that the last event left to send, if it left so many. An error
+    /// means that memory ran out.
     pub fn pdu(&self, alloc: Global, index: usize) -> Result<Option<Vec<u8>>, AllocError>
         ensures { IfOk result (λ octets. option_map (λ o. o.items) octets
             ≡ option_map spelling.written (slice_get (pdus_of self.now.last) index)) }
@@ -155,7 +145,7 @@ impl Session {
         }
     }
 
-    /// A timer operation of the last event, if it has so many.
+    /// The timer operation at `index` among those of the last event, if it has so many.
     pub fn timer(&self, index: usize) -> Option<FlatTimer>
         ensures { result ≡ option_map flat_timer (slice_get (timers_of self.now.last) index) }
     {
@@ -181,7 +171,7 @@ impl Session {
         }
     }
 
-    /// The bundle that was taken last, by its numbers.
+    /// The numbers of the bundle that was taken last.
     pub fn bundle(&self) -> Option<FlatBundle>
         ensures { result ≡ option_map flat_bundle self.now.front }
     {
@@ -191,7 +181,7 @@ impl Session {
         }
     }
 
-    // An indication of the bundle that was taken last.
+    // The indication at `index` in the bundle that was taken last, if it has so many.
     fn told(&self, index: usize) -> Option<&Indication>
         ensures { option_copied result ≡ slice_get (indications_of self.now.front) index }
     {
@@ -201,7 +191,7 @@ impl Session {
         }
     }
 
-    /// An indication of the bundle that was taken last, by its numbers.
+    /// The numbers of the indication at `index` in the bundle that was taken last, if it has so many.
     pub fn indication(&self, index: usize) -> Option<FlatIndication>
         ensures { result ≡ option_map flat_indication (slice_get (indications_of self.now.front) index) }
     {
@@ -231,7 +221,7 @@ impl Session {
         }
     }
 
-    /// A part of the received file that was asked for last: 0 and 1 are its names at the sender and at the receiver, 2
+    /// A part of the received file that was requested last: 0 and 1 are its names at the sender and at the receiver, 2
     /// is its content.
     pub fn image_part(&self, part: usize) -> Option<&[u8]>
         ensures { option_copied result ≡ slice_get (image_parts self.now.image) part }
@@ -267,7 +257,7 @@ impl Session {
         Ok(())
     }
 
-    /// Makes a Put request with the messages that were added, which are gone then, whatever the answer.
+    /// Makes a Put request with the messages that were added. They are gone afterwards, whatever the result.
     pub fn put(&mut self, alloc: Global, order: &Order<'_>) -> Result<PutRequest, PutFault>
         ensures made { IfOk result (λ put. put ≡ put_of order.now self.old.messages) }
         ensures refused { IfErr result (λ fault. (fault ≡ PutFault.NoMemory)
@@ -279,7 +269,7 @@ impl Session {
     }
 }
 
-// A text by its place among both names and the messages.
+// The text at a place among both names and the messages.
 fn text_at<'a>(
     source_name: &'a Octets,
     destination_name: &'a Octets,

@@ -4,8 +4,8 @@ use std::io;
 use std::io::{BufRead, Error, ErrorKind, Read};
 use std::test::*;
 
-// A reader that answers with an error of this kind, mostly an interruption, some times in a row before each read, and
-// fails instead of ending where it is broken.
+// A reader that returns an error of this kind, mostly an interruption, `times` times in a row before each read. A
+// broken one fails instead of ending.
 #[derive(Drop)]
 struct SlowReader<'a> {
     kind: ErrorKind,

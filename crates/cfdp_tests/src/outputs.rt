@@ -4,8 +4,8 @@ use std::io;
 use std::io::{Error, ErrorKind, Write};
 use std::test::*;
 
-// A writer that answers with an error of this kind, mostly an interruption, some times in a row before each write,
-// takes nothing in its first writes, then two octets at a time, and nothing once it is full.
+// A writer that returns an error of this kind, mostly an interruption, `times` times in a row before each write. It
+// takes nothing in its first `idle` writes, then two octets at a time, and nothing once it is full.
 #[derive(Drop)]
 struct SlowWriter {
     kind: ErrorKind,
@@ -38,7 +38,8 @@ impl Write for SlowWriter {
     }
 }
 
-// A writer with this much room, which gives this error so often before each write, and takes nothing for `idle` writes.
+// A writer with this much room, which gives this error `times` times before each write, and takes nothing for `idle`
+// writes.
 fn writer_with(alloc: Global, kind: ErrorKind, times: u32, idle: u32, room: usize) -> SlowWriter {
     SlowWriter {
         kind,

@@ -73,7 +73,7 @@ fn keeps_copies(rt: &HostRuntime) -> Result<bool, Fail> {
     Ok(deep == Err(StoreFault::BadName))
 }
 
-// A file that was prepared answers for its own octets alone, and not for others of its name and size.
+// A prepared file answers a deposit of its own octets alone, and not of others with its name and size.
 fn tells_octets(rt: &HostRuntime) -> Result<bool, Fail> {
     let mut store = store_in(rt, HOME, Layout::Flat, Clash::Replace)?;
     let first = prepared(rt, &mut store, b"y", b"one")?;

@@ -22,8 +22,8 @@ fn has_count(rt: &HostRuntime, folder: &str, expected: usize) -> Result<bool, Fa
     Ok(count == expected)
 }
 
-// Files in the order in which they are given to a store, with their paths. An existing file is replaced as a whole, and a
-// file may have the name of a part: the eighth deposit's part would have this one.
+// Files in the order in which they are given to a store, with their paths. An existing file is replaced as a whole, and
+// a file may have the name of a part: the eighth deposit's part would have this one.
 const FILES: [(&str, &str, &[u8]); 8] = [
     ("b", "/tmp/file_stores/b", b"abc"),
     ("empty", "/tmp/file_stores/empty", b""),
@@ -88,8 +88,8 @@ fn fails(rt: &HostRuntime, folder: &str) -> Result<bool, Fail> {
     Ok(answer == Err(StoreFault::Failed) && store.failures() == 1)
 }
 
-// A file in place of a folder, one that is not there, one without permission to write, and one in which a folder has the
-// file's name.
+// A file in place of a folder, one that is not there, one without permission to write, and one in which a folder has
+// the file's name.
 const FOLDERS: [&str; 4] = [
     "/tmp/file_stores/b",
     "/tmp/file_stores/gone",

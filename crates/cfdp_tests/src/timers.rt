@@ -36,7 +36,7 @@ fn armed(seq: u64, stamp: u32, deadline: u64) -> Armed {
     }
 }
 
-// A call of a list, and its expected answer. Transaction 5 has the only timer, a NAK timer.
+// A call of a list, and its expected result. Transaction 5 has the only timer, a NAK timer.
 #[derive(Clone, Copy)]
 enum Step {
     // Armed at a moment, with a stamp and an interval.
@@ -47,11 +47,11 @@ enum Step {
     NoneDue(u64),
     // At this moment the timer is due, with its stamp and its deadline.
     Due(u64, u32, u64),
-    // Put back, with its stamp and its deadline; whether the list takes it.
+    // Put back, with its stamp and its deadline, and whether the list accepts it.
     PutBack(u32, u64, bool),
 }
 
-// Makes the call; answers whether the answer is as expected.
+// Makes the call, and returns whether the result is as expected.
 fn is_done(timers: &mut TimerList, step: Step) -> Result<bool, AllocError> {
     match step {
         Step::Arms(now, stamp, ms) => {
@@ -107,7 +107,7 @@ const SCRIPTS: &[(&str, &[Step])] = &[
     ),
 ];
 
-// Whether all steps answer as expected, in order.
+// Whether all steps have the expected results, in order.
 fn are_done(alloc: Global, steps: &[Step]) -> Result<bool, AllocError> {
     let mut timers = TimerList::new(alloc);
     for step in steps {

@@ -31,7 +31,7 @@ fn indication(told: Told) -> Indication {
     }
 }
 
-// Indications that a reader with room for three segments is given, with whether it takes each, and whether it is then
+// Indications that a reader with room for three segments is given, with whether it accepts each, and whether it is then
 // at the end.
 const ALL: [(Told, bool, bool); 10] = [
     (Told::Segment(0, 4), true, false),
@@ -50,7 +50,7 @@ fn answers_so(reader: &mut WordReader, told: Told, is_taken: bool, is_end: bool)
     reader.next(&indication(told)).is_ok() == is_taken && reader.at_end() == is_end
 }
 
-// Whether a reader answers all of them so.
+// Whether a reader gives all of these results.
 fn reads_so(reader: &mut WordReader) -> bool {
     for (told, is_taken, is_end) in ALL {
         if !answers_so(reader, told, is_taken, is_end) {

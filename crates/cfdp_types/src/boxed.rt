@@ -3,7 +3,7 @@ ghost use Rattle.std.specs.Prelude.{◌≡◌, IfOk};
 use std::alloc::{AllocError, Global};
 use std::marker::Model;
 
-/// A value in memory of its own, so that what has it stays small. Contracts see the value.
+/// A value in memory of its own, so that the type that holds it stays small. Contracts see the value.
 #[derive(Debug, Drop)]
 pub struct Boxed<T> {
     inner: Box<T>,

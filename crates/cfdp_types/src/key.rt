@@ -9,7 +9,7 @@ pub struct TxnKey {
     pub seq: u64,
 }
 
-/// A received file that was handed to the file store, whose answer is awaited.
+/// A received file that was handed to the file store and waits for the store's answer.
 #[derive(Clone, Copy, Debug, PartialEq, Eq)]
 pub struct Deposit {
     pub key: TxnKey,

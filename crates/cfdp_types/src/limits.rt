@@ -1,5 +1,5 @@
-//! The greatest numbers and sizes that one entity supports. Where a thing is needed and no least number is given,
-//! the least is one.
+//! The greatest numbers and sizes that one entity supports. Of anything that is needed, the least number is one, unless
+//! another is given here.
 
 /// Octets in a file.
 pub const FILE_OCTETS: u32 = 16_777_216;
@@ -13,7 +13,7 @@ pub const SEGMENT_OCTETS_MOST: u16 = 1_400;
 /// Events in a lane's journal.
 pub const JOURNAL_ENTRIES: u32 = 262_144;
 
-/// The last places of the journal, reserved for the file store's answer and for Abandon.
+/// Places at the end of a lane's journal that are reserved for the file store's answer and for Abandon.
 pub const JOURNAL_ENTRIES_KEPT: u32 = 2;
 
 /// Local users.
@@ -37,7 +37,7 @@ pub const QUEUE_BUNDLES: usize = 1_024;
 /// Segment requests in a NAK PDU that the entity sends.
 pub const NAK_REQUESTS: usize = 64;
 
-/// Expirations of one timer until the fault is declared.
+/// Expirations of one timer, the last of which declares its fault.
 pub const EXPIRATIONS: u8 = 255;
 
 /// Milliseconds that a timer may run: one day.
@@ -62,6 +62,6 @@ pub const CONFIGURED_NUMBER: u64 = 9_223_372_036_854_775_807;
 /// Octets in a user's name.
 pub const USER_NAME_OCTETS: usize = 32;
 
-/// Pushes into one user's queue in one run. The theorems about the queue assume fewer; no run reaches
+/// Pushes into one user's queue in one run. The laws of the queue assume fewer; no run reaches
 /// this number.
 pub const QUEUE_PUSHES: u64 = 4_611_686_018_427_387_904;

@@ -7,8 +7,8 @@ use bytes::Bytes;
 use std::alloc::{AllocError, Global};
 use std::marker::Model;
 
-/// A sequence of octets that is not interpreted, such as a name or a piece of a file. Copies and parts share one
-/// block of memory, which is freed with the last of them. Contracts see the list of octets.
+/// An uninterpreted sequence of octets, such as a name or a piece of a file. Copies and parts share one block of
+/// memory, which is freed with the last of them. Contracts see the list of octets.
 #[derive(Debug, Drop)]
 pub struct Octets {
     items: Bytes<Global>,
@@ -51,7 +51,7 @@ impl Octets {
         })
     }
 
-    /// The same octets, sharing the memory.
+    /// A copy that shares the memory.
     pub fn copy(&self) -> Result<Octets, AllocError>
         ensures { IfOk result (λ copy. copy ≡ self.now) }
     {
@@ -60,7 +60,7 @@ impl Octets {
         })
     }
 
-    /// The octets from `start` to `end` - 1, sharing the memory.
+    /// The octets from `start` to `end` - 1, which share the memory.
     pub fn part(&self, start: usize, end: usize) -> Result<Octets, AllocError>
         requires ordered { start ≤ end }
         requires inside { end ≤ length self.now }

@@ -168,7 +168,7 @@ impl PutRequest {
         })
     }
 
-    /// A copy of the request, sharing the octets.
+    /// A copy of the request, which shares the octets.
     pub fn copy(&self) -> Result<PutRequest, AllocError>
         ensures { IfOk result (λ copy. copy ≡ self.now) }
     {
@@ -186,8 +186,8 @@ impl PutRequest {
         })
     }
 
-    /// This request, with transaction closure or without: whether a class 1 receiver is asked for a Finished PDU.
-    /// In class 2 this changes nothing, as the receiver sends one unasked.
+    /// This request with or without transaction closure, which asks a class 1 receiver for a Finished PDU. In class 2
+    /// it changes nothing, as the receiver sends one unasked.
     pub fn with_closure(self, closure: bool) -> PutRequest
         ensures { result ≡ record self { closure = closure } }
     {

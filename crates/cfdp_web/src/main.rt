@@ -24,7 +24,7 @@ use web_pages::Settings;
 // The exit status after a fault of the program.
 const FAULT: u8 = 1;
 
-// The exit status after a command line that the program doesn't take.
+// The exit status after a command line that the program doesn't accept.
 const USAGE: u8 = 2;
 
 // Serves as the command line says.
@@ -89,7 +89,7 @@ fn greet<W: Write>(output: &mut W, words: &Words<'_>, token: &Option<Vec<u8>>) -
     output.flush()
 }
 
-// Prints why the program ends; answers the exit status.
+// Prints why the program ends; returns the exit status.
 fn fail<E: Write>(errors: &mut E, why: &str) -> u8 {
     let _said = writeln!(errors, "cfdp_web: {why}");
     FAULT

@@ -46,7 +46,7 @@ fn push_about(
     push_number(alloc, words, key.seq)
 }
 
-/// Adds what changes the server. To follow changes nothing, so nothing is added for that.
+/// Adds what changes the server. Following changes nothing, so nothing is added for it.
 pub(crate) fn push_tuning(
     alloc: Global,
     words: &mut Vec<u8>,
@@ -92,7 +92,7 @@ fn push_limited(
     }
 }
 
-// Adds a limit, or that there is none.
+// Adds a limit, or `off` if there is none.
 fn push_limit(alloc: Global, words: &mut Vec<u8>, limit: Option<u64>) -> Result<(), AllocError>
     ensures { OnOk result (words.new.items ≡ words.old.items ++ limit_octets limit) }
 {

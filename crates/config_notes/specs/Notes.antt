@@ -16,7 +16,8 @@ use Rattle.config_notes.specs.declared.note.Note.TheVariants as note
 abbrev pub note_if : Bool → Note → List Note
 note_if holds n = if holds then n ∷ [] else []
 
--- with one octet, numbers are used up soon; and a peer of the same configuration may open more files than there are lanes
+-- with one octet, numbers are used up soon; and a peer of the same configuration may open more files than there are
+-- lanes
 abbrev pub entity_notes : ConfigValue → List Note
 entity_notes config =
     note_if (config.entity.lengths.sequence_octets == 1) note.ShortNumbers

@@ -5,7 +5,7 @@ use cfdp_types::{EntityId, Role};
 pub enum Note {
     /// Transaction numbers have one octet: 256 numbers for all lanes together.
     ShortNumbers,
-    /// A peer with the same configuration may have so many files open at once, for fewer receiving lanes.
+    /// A peer with the same configuration may have so many files open at once, but there are fewer receiving lanes.
     FewLanes { files: u64, lanes: u64 },
     /// Files of a remote entity go to no user.
     NoUser { remote: EntityId },

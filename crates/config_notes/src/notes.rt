@@ -34,7 +34,7 @@ fn add_at(notes: &mut Vec<Note>, config: &Config, place: usize) -> Result<(), Al
     }
 }
 
-// Adds a note where something holds.
+// Adds a note if something holds.
 fn add_if(notes: &mut Vec<Note>, holds: bool, note: Note) -> Result<(), AllocError>
     ensures { OnOk result (notes.new.items ≡ notes.old.items ++ note_if holds note) }
 {
@@ -64,7 +64,7 @@ fn add_remote(notes: &mut Vec<Note>, remote: &Remote) -> Result<(), AllocError>
     add_timers(notes, remote)
 }
 
-// Adds who has to do something about its files: nobody gets them, or somebody has to resume.
+// Adds the notes on its files: nobody gets them, or somebody has to resume them.
 fn add_duties(notes: &mut Vec<Note>, remote: &Remote) -> Result<(), AllocError>
     ensures { OnOk result (notes.new.items ≡ notes.old.items ++ duty_notes remote.now) }
 {

@@ -19,7 +19,7 @@ pub record ConfigValue : Type 0 where
   pub users : List (List ℕ)
   pub peers : List PeerValue
 
--- an ID that a configuration may name, where IDs have so many octets
+-- an ID that a configuration may name, where IDs have this many octets
 abbrev pub is_id : ℕ → ℕ → Bool
 is_id octets id = nat_le id CONFIGURED_NUMBER && nat_lt id (256 ^ octets)
 
@@ -73,7 +73,7 @@ has_room routes route = of_user route.user
     of_user None = true
     of_user (Some user) = nat_le (count_by (goes_to user) routes) SOURCES_OF_A_USER
 
--- its user, if there is one, is one of so many
+-- its user, if there is one, is one of this many
 abbrev pub has_user : ℕ → Route → Bool
 has_user users route = is_below route.user
   where

@@ -96,7 +96,7 @@ abbrev pub has_only : List Key → Members → Bool
 has_only keys no_members = true
 has_only keys (member k d ms) = list_any (λ known. is_same_text (key_text known) k) keys && has_only keys ms
 
--- the greatest ID of so many octets that a configuration can name
+-- the greatest ID of this many octets that a configuration can name
 abbrev pub greatest_id : ℕ → ℕ
 greatest_id octets = min CONFIGURED_NUMBER (256 ^ octets - 1)
 

@@ -1,6 +1,6 @@
 use cfdp_types::{EntityId, HeaderLengths};
 
-/// The part of a configuration that is about the entity itself.
+/// The part of a configuration about the entity itself.
 #[derive(Clone, Copy, Debug, PartialEq, Eq)]
 pub struct EntitySettings {
     /// The entity's ID.

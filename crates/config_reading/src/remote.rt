@@ -1,6 +1,6 @@
 use cfdp_types::{EntityId, Params};
 
-/// The part of a configuration that is about a remote entity, apart from its address.
+/// The part of a configuration about a remote entity, apart from its address.
 #[derive(Clone, Copy, Debug, PartialEq, Eq)]
 pub struct Remote {
     /// The remote entity's ID.

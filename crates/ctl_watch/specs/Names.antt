@@ -6,7 +6,7 @@ abbrev pub is_left_alone : List ℕ → Bool
 is_left_alone [] = false
 is_left_alone (first ∷ others) = first == 46
 
--- the name under which a file is kept: its own, or with a dot and a number of two or more behind it
+-- the name under which a file is kept: its own, followed by a dot and the number if that is two or more
 abbrev pub kept_name : ℕ → List ℕ → List ℕ
 kept_name number name = if nat_lt number 2 then name else name ++ (codes "." ++ decimal number)
 

@@ -26,7 +26,7 @@ new_sight size modified now = record { size = size; modified = modified; since =
 abbrev pub sight_now : Sight → ℕ → ℕ → ℕ → Sight
 sight_now before size modified now = if is_same before size modified then before else new_sight size modified now
 
--- where a file stands that was seen before: one that wasn't sent waits again once it changes
+-- where a file that was seen before stands: one that wasn't sent waits again once it changes
 abbrev pub standing_of : Standing → Bool → Standing
 standing_of Waiting same = Waiting
 standing_of UnderWay same = UnderWay
@@ -35,7 +35,7 @@ standing_of Refused same = if same then Refused else Waiting
 abbrev pub standing_now : Watched → ℕ → ℕ → Standing
 standing_now before size modified = standing_of before.standing (is_same before.sight size modified)
 
--- a file that is seen at a moment with this size and time, by what was known of it before
+-- a file that is seen at a moment with this size and time, given what was known of it before
 abbrev pub watched_now : Option Watched → ℕ → ℕ → ℕ → Watched
 watched_now None size modified now = record { sight = new_sight size modified now; standing = Waiting }
 watched_now (Some before) size modified now =

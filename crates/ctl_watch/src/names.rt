@@ -14,8 +14,8 @@ pub fn is_left_alone(name: &str) -> bool
     }
 }
 
-/// The name under which a file is kept after it has ended: its own, or for a number of two or more with a dot and that number
-/// behind it.
+/// The name under which a file is kept after it has ended: its own, followed by a dot and the number if that is two or
+/// more.
 pub fn kept_name(alloc: Global, name: &str, number: u64) -> Result<String, AllocError>
     ensures { IfOk result (λ text. string_bytes text ≡ kept_name number name.now) }
 {

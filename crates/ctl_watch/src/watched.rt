@@ -15,7 +15,7 @@ pub struct Sight {
     pub size: u64,
     /// When it was written, on the clock of its disk.
     pub modified: u64,
-    /// Since when it is so, in milliseconds of the watcher's clock.
+    /// Since when it has been so, in milliseconds of the watcher's clock.
     pub since: u64,
 }
 
@@ -26,7 +26,7 @@ pub enum Standing {
     Waiting,
     /// The server has it, and its end isn't known yet.
     UnderWay,
-    /// It isn't sent as it is.
+    /// It isn't sent unless it changes.
     Refused,
 }
 
@@ -37,7 +37,7 @@ pub struct Watched {
     pub standing: Standing,
 }
 
-/// A file as it is seen at a moment with this size and time, by what was known of it before.
+/// A file that is seen now with this size and time, given what was known of it before.
 pub fn watched_now(before: Option<Watched>, size: u64, modified: u64, now: u64) -> Watched
     ensures { result ≡ watched_now before size modified now }
 {
@@ -72,7 +72,7 @@ fn sight_now(before: Sight, size: u64, modified: u64, now: u64) -> Sight
     }
 }
 
-// Where a file stands that was seen before: one that wasn't sent waits again once it changes.
+// Where a file that was seen before stands: one that wasn't sent waits again once it changes.
 fn standing_now(before: Watched, size: u64, modified: u64) -> Standing
     ensures { result ≡ standing_now before size modified }
 {
@@ -96,7 +96,7 @@ pub fn is_same(sight: Sight, size: u64, modified: u64) -> bool
     sight.size == size && sight.modified == modified
 }
 
-/// The place of the file sent next, in the order of the list; `None` if none is ready, or if as many files as may be
+/// The place of the file sent next, in the order of the list; `None` if none is ready, or if as many files as allowed
 /// are under way.
 pub fn next_to_send(files: &[Watched], now: u64) -> Option<usize>
     ensures { result ≡ next_to_send now files.now }

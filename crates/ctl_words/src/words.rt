@@ -64,7 +64,7 @@ pub struct FollowWords<'a> {
     pub transaction: Option<TransactionWord>,
     /// How many of the last events come first, if the line says so: up to 1,024.
     pub last: Option<u64>,
-    /// The level from which on events are followed, if not all are: `detail`, `info` or `warning`.
+    /// The lowest level of the events that are followed, if not all are: `detail`, `info` or `warning`.
     pub level: Option<&'a str>,
     /// Whether the next server is followed after this one.
     pub again: bool,
@@ -160,6 +160,6 @@ pub enum Verb {
 pub enum Choice<'a> {
     /// This one.
     One(TransactionWord),
-    /// Those that go on with this entity at the other end, and of this user, as far as these are given.
+    /// Those under way: if given, only those with this entity at the other end, and only those of this user.
     Many(Option<u64>, Option<&'a str>),
 }

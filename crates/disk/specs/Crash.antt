@@ -1,12 +1,13 @@
 -- Meaning. What a power cut may leave of a disk, after steps, newest first.
--- A cut within a call leaves what a cut before the call or one behind it may leave. No call takes a folder away.
+-- A cut within a call leaves what a cut before the call or after it may leave. No call removes a folder.
 use Rattle.std.specs.Prelude.{◌≡◌, ◌≢◌, ◌⊎◌, ℕ, true, List, [], ◌∷◌, ◌++◌, take, replicate, slice_index, Option, Some, None}
 use Rattle.disk.specs.Steps.{Call, Step, folder_of, is_slash}
 use Rattle.disk.specs.Steps.Call.{create, append, flush, rename, link, remove, make_folder, flush_folder}
 use Rattle.disk.specs.Steps.Step.{did, tried, refused, saw, saw_folder, cut}
 
--- the octets of a file: written, of which a cut may leave anything; flushed, so that they stay; flushed, and others
--- behind them; the same once a write or flush of those failed, and a later flush is not believed; nothing is known of them
+-- the octets of a file: written, of which a cut may leave anything; flushed, so that they stay; flushed, with others
+-- after them; the same once a write or flush of those failed, and a later flush is not believed; nothing is known of
+-- them
 pub data Content : Type 0 where
   written : List ℕ → Content
   flushed : List ℕ → Content
@@ -24,7 +25,7 @@ pub data Entry : Type 0 where
 abbrev pub Entries : Type 1
 Entries = List ℕ → Entry → Type 0
 
--- with octets behind it
+-- with octets appended
 abbrev pub appended : List ℕ → Content → Content
 appended octets (written before) = written (before ++ octets)
 appended octets (flushed before) = grown before octets
@@ -40,7 +41,7 @@ settled (grown before behind) = flushed (before ++ behind)
 settled (worn before behind) = worn before behind
 settled unknown = unknown
 
--- after octets that couldn't be written or flushed behind it
+-- after appended octets couldn't be written or flushed
 abbrev pub spoiled : List ℕ → Content → Content
 spoiled octets (flushed before) = worn before octets
 spoiled octets (grown before behind) = worn before (behind ++ octets)
@@ -70,7 +71,7 @@ shut_as content (shut earlier) = shut earlier
 abbrev pub shutting : Content → Entries → Entries
 shutting content entries path entry = (before : Entry) × entries path before × (entry ≡ shut_as content before)
 
--- the entries as a call finds them: a new file shuts the open one
+-- the entries as a call finds them: a new file closes the open one
 abbrev pub met_by : Call → Content → Entries → Entries
 met_by (create path) content entries = shutting content entries
 met_by _ content entries = entries
@@ -170,7 +171,7 @@ abbrev pub state : List Step → State
 state [] = at_first
 state (step ∷ earlier) = after step (state earlier)
 
--- of octets behind flushed ones a power cut leaves those up to some place, and maybe zeros from there on
+-- of octets after flushed ones a power cut leaves those up to some place, and maybe zeros from there on
 pub record LeavesBehind (before behind found : List ℕ) : Type 0 where
   pub place : ℕ
   pub zeros : ℕ

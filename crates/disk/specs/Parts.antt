@@ -5,7 +5,7 @@ use Rattle.disk.specs.Crash.{Content, Entry, state, left}
 use Rattle.disk.specs.Crash.Content.{flushed}
 use Rattle.disk.specs.Crash.Entry.{open_file}
 
--- the open file has this content, and stands under this path alone
+-- the open file has this content, and is under this path alone
 pub record IsOpen (part : List ℕ) (content : Content) (steps : List Step) : Type 0 where
   pub file : (state steps).file ≡ content
   pub sole : (entry : Entry) → (state steps).has part entry → entry ≡ open_file
@@ -18,7 +18,7 @@ pub record IsNamed (name octets : List ℕ) (steps : List Step) : Type 0 where
   pub sole : (entry : Entry) → (state steps).has name entry → entry ≡ open_file
   pub there : (state steps).has name open_file
 
--- the open file has this content, and stands under this name alone, but for the part that it was, whatever a cut leaves
+-- the open file has this content, and is under this name alone, but for the part that it was, whatever a cut leaves
 pub record IsKept (part name : List ℕ) (content : Content) (steps : List Step) : Type 0 where
   pub file : (state steps).file ≡ content
   pub only : (entry : Entry) → left (state steps) name entry → entry ≡ open_file

@@ -10,12 +10,12 @@ use Rattle.disk.specs.declared.device.Fault.TheVariants.{Exists, MayPass, Failed
 abbrev pub is_slash : ℕ → Bool
 is_slash octet = octet == 47
 
--- the folder of a path: what stands before its last slash, or nothing, which is the disk's own folder
+-- the folder of a path: the part before its last slash, or nothing, which is the disk's own folder
 abbrev pub folder_of : List ℕ → List ℕ
 folder_of path = before_last is_slash path
 
--- A new file under a path, which is the open file from then on; octets behind those of the open file; a flush of the
--- open file; a file under another path; one file under two paths; a path taken away; a new folder; a flush of a folder.
+-- A new file under a path, which is the open file from then on; octets appended to the open file; a flush of the open
+-- file; a file under another path; one file under two paths; a path removed; a new folder; a flush of a folder.
 pub data Call : Type 0 where
   create : List ℕ → Call
   append : List ℕ → Call
@@ -26,8 +26,9 @@ pub data Call : Type 0 where
   make_folder : List ℕ → Call
   flush_folder : List ℕ → Call
 
--- a call that was answered; a call that failed, and may have happened or not; a call that was refused since the path is
--- taken, and did nothing; a read of a path, which found no file or these octets; a look that found a folder; a power cut
+-- a call that was answered; a call that failed, and may have happened or not; a call that was refused because the path
+-- is taken, and did nothing; a read of a path, which found no file or these octets; a look that found a folder; a power
+-- cut
 pub data Step : Type 0 where
   did : Call → Step
   tried : Call → Step

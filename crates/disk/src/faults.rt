@@ -7,7 +7,7 @@ use crate::device::Fault;
 use std::io;
 use std::io::ErrorKind;
 
-// Numbers of the system for errors that have no kind of their own.
+// The system's numbers of errors that have no kind of their own.
 const INPUT_OUTPUT_ERROR: i32 = 5;
 
 const TOO_MANY_FILES_IN_SYSTEM: i32 = 23;
@@ -74,7 +74,7 @@ impl Hindrance {
     }
 }
 
-/// What hinders the disk where the system answers with an error.
+/// What hinders the disk where the system returns this error.
 pub(crate) fn hindrance_of(error: &io::Error) -> Hindrance
     ensures { result ≡ hindrance_of (error_kind error.now) (raw_os_error error.now) }
 {
@@ -88,7 +88,7 @@ pub(crate) fn hindrance_of(error: &io::Error) -> Hindrance
     }
 }
 
-// What hinders where an error has this number and no kind of its own.
+// What hinders the disk where an error has this number and no kind of its own.
 fn numbered_hindrance(code: Option<i32>) -> Hindrance
     ensures { result ≡ numbered_hindrance code }
 {

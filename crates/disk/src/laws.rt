@@ -7,7 +7,7 @@ pub fn steps_count()
     ensures { EachStepCounts }
 {}
 
-/// A file that holds after a power cut stays, until a later step names its path.
+/// A file that survives any power cut continues to do so, until a later step names its path.
 pub fn files_stay()
     ensures { StaysKept }
 {}

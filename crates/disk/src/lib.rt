@@ -1,4 +1,4 @@
-//! A disk, by what it was asked, and what a power cut may leave of it.
+//! A disk, described by the requests to it, and what a power cut may leave of it.
 #![tactic(auto)]
 
 mod device;

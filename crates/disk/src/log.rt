@@ -1,4 +1,5 @@
-//! What a disk was asked: a history that only proofs read. It takes no memory, and its methods do nothing at run time.
+//! The history of the requests to a disk, which only proofs read. It takes no memory, and its methods do nothing at run
+//! time.
 ghost use Rattle.std.specs.Prelude.{◌≡◌, [], ◌∷◌, List};
 ghost use Rattle.std.specs.Borrow.{ftrue};
 ghost use Rattle.disk.specs.Steps.{Step};
@@ -6,7 +7,7 @@ ghost use Rattle.disk.specs.Steps.{Step};
 use crate::device::Fault;
 use std::marker::Model;
 
-/// What a disk is asked.
+/// A request to a disk.
 #[derive(Clone, Copy)]
 pub enum Asked<'a> {
     Create(&'a str),
@@ -19,10 +20,10 @@ pub enum Asked<'a> {
     FlushFolder(&'a str),
 }
 
-/// What is noted.
+/// An entry of the history.
 #[derive(Clone, Copy)]
 pub enum Note<'a> {
-    /// A request, and its answer.
+    /// A request, and its result.
     Called(Asked<'a>, Result<(), Fault>),
     /// A read of a path, which found no file or these octets.
     Saw(&'a str, Option<&'a [u8]>),
@@ -30,7 +31,7 @@ pub enum Note<'a> {
     SawFolder(&'a str),
 }
 
-/// What a disk was asked, newest first: `steps` in a clause.
+/// The history of a disk, newest first. Contracts read it as `steps`.
 #[derive(Drop)]
 pub struct Log {
     pub ghost steps: { List Step },
@@ -43,14 +44,14 @@ impl Model for Log {
 impl Log {
     ghost use Rattle.disk.specs.Asked.{noted};
 
-    /// The history since now: what may be there is not known.
+    /// A history that begins now: what is on the disk already is not known.
     pub fn new() -> Log
         ensures { result.steps ≡ [] }
     {
         Log {}
     }
 
-    /// The history with one request more.
+    /// The history with one more entry.
     pub fn and(&self, _note: &Note<'_>) -> Log
         ensures { result.steps ≡ noted _note.now ∷ self.now.steps }
     {

@@ -11,7 +11,7 @@ use std::io::{ErrorKind, Read, Write};
 use std::rt::Files;
 use std::{fs, io};
 
-/// A folder of the system, which must exist when it is used. What its history was before is not known.
+/// A folder of the system, which must exist when it is used. Its earlier history is not known.
 #[derive(Drop)]
 pub struct SystemDisk<R: Files + AllocGlobal + Drop> {
     rt: R,
@@ -35,7 +35,7 @@ impl<R: Files + AllocGlobal + Drop> SystemDisk<R> {
         }
     }
 
-    // Asks the system, and notes what was asked and what it answered.
+    // Passes a request to the system, and notes the request and its result.
     fn ask(&mut self, asked: Asked<'_>) -> Result<(), Fault>
         ensures { self.new.log.steps ≡ noted (Called asked.entry result) ∷ self.old.log.steps }
     {
@@ -50,7 +50,7 @@ impl<R: Files + AllocGlobal + Drop> SystemDisk<R> {
         answer
     }
 
-    // Makes the call. No proof says that it is this one: here the history rests on the code.
+    // Makes the system call. No proof says that it is the requested one: here the history relies on the code.
     fn perform(&mut self, asked: Asked<'_>) -> io::Result<()>
         ensures { self.new.log ≡ self.old.log }
     {
@@ -115,7 +115,7 @@ impl<R: Files + AllocGlobal + Drop> SystemDisk<R> {
         }
     }
 
-    // A file that gets its name stays open: it may be written on.
+    // A renamed file stays open, so that more can be appended.
     fn move_file(&self, from: &str, to: &str) -> io::Result<()> {
         let from = self.place(from)?;
         let to = self.place(to)?;
@@ -149,7 +149,7 @@ impl<R: Files + AllocGlobal + Drop> SystemDisk<R> {
         File::open(&self.rt, place.as_str())?.sync_all()
     }
 
-    // The octets of a file, or none if there is no file.
+    // Returns the octets of a file, or None if there is no file.
     fn octets_of(&self, path: &str) -> io::Result<Option<Vec<u8>>> {
         let place = self.place(path)?;
         match fs::read(&self.rt, place.as_str()) {
@@ -159,7 +159,7 @@ impl<R: Files + AllocGlobal + Drop> SystemDisk<R> {
         }
     }
 
-    // Whether there is a folder at a path. A link to one is none.
+    // Whether there is a folder at a path. A link to a folder doesn't count.
     fn has_folder(&self, path: &str) -> io::Result<bool> {
         let place = self.place(path)?;
         Ok(fs::symlink_metadata(&self.rt, place.as_str())?.is_dir())

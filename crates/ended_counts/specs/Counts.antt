@@ -11,7 +11,7 @@ abbrev pub role_place : Role → ℕ
 role_place roles.Sender = 0
 role_place roles.Receiver = 48
 
--- the place of the first count of a class behind that: 16 counts for each
+-- the place of the first count of a class, counted from its role's: 16 counts for each
 abbrev pub class_place : Class → ℕ
 class_place classes.Unknown = 0
 class_place classes.One = 16

@@ -10,7 +10,7 @@ pub const CONDITIONS: u8 = 16;
 // How many counts there are: for each role, class and condition code.
 const COUNTS: usize = 96;
 
-/// The end of a transaction that runs here.
+/// Which end of a transaction runs here.
 #[derive(Clone, Copy, Debug, PartialEq, Eq)]
 pub enum Role {
     Sender,
@@ -49,7 +49,7 @@ impl Class {
         }
     }
 
-    // The place of its first count, behind that of a role.
+    // The place of its first count, counted from that of a role.
     fn place(self) -> usize
         ensures { result ≡ class_place self }
     {
@@ -61,7 +61,7 @@ impl Class {
     }
 }
 
-/// Transactions that are counted together. Of the condition code the last four bits count.
+/// Transactions that are counted together. Only the last four bits of the condition code count.
 #[derive(Clone, Copy, Debug, PartialEq, Eq)]
 pub struct Ended {
     pub role: Role,

@@ -18,7 +18,7 @@ impl Files {
     }
 }
 
-/// How many octets a file of a size lacks of which so many, each once, arrived.
+/// How many octets a file of this size lacks, of which so many arrived, each counted once.
 pub fn missing_of(size: u64, arrived: u64) -> u64
     ensures { result ≡ size - arrived }
 {

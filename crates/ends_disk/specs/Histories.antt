@@ -33,7 +33,8 @@ steps_of [] = []
 steps_of (at_ends move ∷ earlier) = steps_of earlier
 steps_of (at_disk step ∷ earlier) = step ∷ steps_of earlier
 
--- a deposit: the receiver gave the file at this stamp, and after some steps the disk held its octets under a path for its name
+-- a deposit: the receiver gave the file at this stamp, and after some steps the disk held its octets under a path for
+-- its name
 pub record Deposited (is_path_of : List ℕ → List ℕ → Bool) (stamp : ℕ) (earlier : List Happening) : Type 0 where
   pub given : List Happening
   pub image : Image
@@ -45,7 +46,7 @@ pub record Deposited (is_path_of : List ℕ → List ℕ → Bool) (stamp : ℕ)
   pub later : List Happening
   pub earlier_is : earlier ≡ later ++ (during ++ given)
 
--- an answer that the file store keeps the file comes behind its deposit
+-- an answer that the file store keeps the file comes after its deposit
 abbrev pub IsTrueAnswer : (List ℕ → List ℕ → Bool) → What → List Happening → Type 0
 IsTrueAnswer is_path_of (what.Stored stamp true) earlier = Deposited is_path_of stamp earlier
 IsTrueAnswer is_path_of _ earlier = Unit {0}
@@ -58,8 +59,8 @@ AnswersTruly is_path_of (at_ends (receives entry) ∷ earlier) = IsTrueAnswer is
 AnswersTruly is_path_of (at_ends (echoes pdu) ∷ earlier) = AnswersTruly is_path_of earlier
 AnswersTruly is_path_of (at_disk step ∷ earlier) = AnswersTruly is_path_of earlier
 
--- at some moment the disk held the Put's file under a path for its name; whatever happens from then on, as long as no step
--- names the path, exactly the Put's octets may be found there, also after a power cut
+-- at some moment the disk held the Put's file under a path for its name; whatever happens from then on, as long as no
+-- step names the path, exactly the Put's octets may be found there, also after a power cut
 pub record Stands (is_path_of : List ℕ → List ℕ → Bool) (put : PutValue) (earlier : List Happening) : Type 0 where
   pub path : List ℕ
   pub is_place : is_path_of put.destination_name path ≡ true

@@ -31,7 +31,7 @@ pdu_in (Put request params) = None
 abbrev pub IsCarried : List Move → Event → Type 0
 IsCarried moves event = IfSome (pdu_in event) (Contains (ever_sent moves))
 
--- the lane stands at one end of a schedule with one more move, which sends the PDUs of the lane's step
+-- the lane is at one end of a schedule with one more move, which sends the PDUs of the lane's step
 pub record HasMoved (side : Side) (sending : Sending) (reception : Reception) (moves : List Move) (next : State) : Type 0 where
   pub move : Move
   pub is_schedule : IsSchedule sending reception (move ∷ moves)

@@ -3,7 +3,7 @@
 ghost use Rattle.ends_lanes.specs.LaneMoves.{EchoesAreMoves, LanesGiveThePut, StepsAreMoves};
 ghost use Rattle.ends_lanes.specs.EntityMoves.{EntityStepsAreMoves};
 
-/// An event that a lane accepts, with what the step sends, is a move of the lane's end. So where two lanes get only
+/// An event that a lane accepts, with what the step sends, is a move of the lane's end. So where two lanes receive only
 /// PDUs that one of them has sent, the laws of schedules apply to both.
 pub fn steps()
     ensures { StepsAreMoves }
@@ -14,8 +14,8 @@ pub fn echoes()
     ensures { EchoesAreMoves }
 {}
 
-/// Each file that a lane gives at the receiver's end is the one that was put, for whatever key and stamp it is
-/// requested.
+/// Each file that a lane gives at the receiver's end is the one that was put, whatever key and stamp it is requested
+/// with.
 pub fn images()
     ensures { LanesGiveThePut }
 {}

@@ -83,7 +83,7 @@ impl Config {
         })
     }
 
-    /// The configuration with parts that are within all limits.
+    /// The configuration with these parts, which are within all limits.
     pub(crate) fn of_parts(parts: ConfigParts) -> Config
         requires { IsTrue (is_config (parts_shown parts)) }
         ensures { result ≡ parts_shown parts }
@@ -191,7 +191,7 @@ impl Config {
         source_among(&self.peers, user, place)
     }
 
-    /// Changes one setting; a limit, a handler or the checksum changes for every remote entity. A number out of range,
+    /// Changes one setting. A limit, a handler or the checksum changes for every remote entity. A number out of range,
     /// or a handler that its role does not allow for the condition, changes nothing.
     pub fn set(&mut self, setting: Setting) -> Result<(), ConfigFault>
         ensures ok { OnOk result (with_setting setting self.old ≡ Ok self.new) }

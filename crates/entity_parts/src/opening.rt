@@ -10,7 +10,7 @@ use lane_table::Numbers;
 use std::alloc::Global;
 use txn_lane::Lane;
 
-/// A user's lane, still without a transaction.
+/// A new lane of a user, which has opened no transaction yet.
 #[tactic(auto, using(crate::proofs::FirstFacts::receiving_sound))]
 pub fn lane_for(alloc: Global, config: &Config, user: usize, lane: usize) -> Lane
     ensures lane { result ≡ first_lane config.now user lane }
@@ -38,7 +38,7 @@ fn sending_lane(alloc: Global, config: &Config, user: usize, lane: usize) -> Lan
     Lane::sending(alloc, user, lane, entity.local, numbers, greatest)
 }
 
-// The greatest number of so many octets.
+// The greatest number of this many octets.
 fn greatest_in(octets: u8) -> u64
     requires { IsTrue (is_within 1 8 octets) }
     ensures { result ≡ 256 ^ octets - 1 }

@@ -10,10 +10,10 @@ use txn_events::Refusal;
 pub enum EntityRefusal {
     /// No lane gets the event.
     Route(RouteRefusal),
-    /// The lane refuses the event. NoMemory is reported like this too where memory runs out before a lane is found.
+    /// The lane refuses the event. NoMemory is also reported this way where memory runs out before a lane is found.
     Lane(Refused),
-    /// The lane behind a lock is not the one that the event goes to. This is possible only in the shared entity, and
-    /// only where a gate does more with lanes than have them step.
+    /// The lane that a lock holds is not the one that the event goes to. This is possible only in the shared entity,
+    /// and only where a gate does more with lanes than have them step.
     WrongLane,
 }
 

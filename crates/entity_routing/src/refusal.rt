@@ -3,7 +3,7 @@ ghost use Rattle.entity_routing.specs.Refusal.{refusal_name, refusal_number};
 
 use pdu_reading::DecodeFault;
 
-/// The number and the name of an entity's refusal that is no reason of a route: the lane behind a lock is another one.
+/// The number and the name of the entity's refusal that is not a route's: a lock holds a lane other than the event's.
 pub const WRONG_LANE_NUMBER: u8 = 26;
 
 pub const WRONG_LANE_NAME: &str = "WrongLane";

@@ -61,14 +61,15 @@ fn place_of(config: &Config, key: TxnKey) -> Option<Place>
     }
 }
 
-/// The lane that a transaction belongs to.
+/// The lane that a transaction belongs to. `NoRoute` if there is none.
 pub fn place_of_key(config: &Config, key: TxnKey) -> Result<Place, RouteRefusal>
     ensures { result ≡ routes.key_place config.now key }
 {
     place_of(config, key).ok_or(RouteRefusal::NoRoute)
 }
 
-/// The lane of a transaction, if it belongs to this user.
+/// The lane of a transaction, if it belongs to this user. `NoRoute` if there is none, `NotYours` if it is another
+/// user's.
 pub fn place_of_own(config: &Config, user: usize, key: TxnKey) -> Result<Place, RouteRefusal>
     ensures { result ≡ routes.own_place config.now user key }
 {
@@ -130,7 +131,8 @@ fn is_from_itself(config: &Config, header: &Header) -> bool
     }
 }
 
-/// The lane that gets a PDU.
+/// The lane that gets a PDU. Returns the first error that applies: `NotForUs`, `WrongDirection` or `NoRoute`. A PDU
+/// toward the receiver that names the entity itself as its source gets `NoRoute`.
 pub fn place_of_pdu(config: &Config, pdu: &Pdu) -> Result<Place, RouteRefusal>
     ensures { result ≡ routes.pdu_place config.now pdu.now }
 {

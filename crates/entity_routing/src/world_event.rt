@@ -3,7 +3,7 @@ use cfdp_types::{Octets, PutRequest, TimerKind, TxnKey};
 /// A user's request.
 #[derive(Debug, Drop)]
 pub enum Request {
-    /// Send a file, from this one of the user's sending lanes.
+    /// Send a file from the user's sending lane with this number.
     Put(usize, PutRequest),
     Cancel(TxnKey),
     Suspend(TxnKey),
@@ -15,7 +15,7 @@ pub enum Request {
 /// An event of the entity.
 #[derive(Debug, Drop)]
 pub enum WorldEvent {
-    /// A user, by number, makes a request.
+    /// The user with this number makes a request.
     Request(usize, Request),
     /// A datagram was received.
     Deliver(Octets),

@@ -9,7 +9,7 @@ use pdu_codec::{DecodeFault, Pdu, decode};
 use std::alloc::{AllocError, Global};
 use std::sync::Wait;
 
-/// A bounded queue of decoded datagrams, from those who receive them to the workers.
+/// A bounded queue of decoded datagrams, from the threads that receive them to the workers.
 pub struct Intake;
 
 /// The sending end of an intake, for datagrams.
@@ -56,7 +56,7 @@ impl IntakeSend {
 }
 
 impl IntakeEnd {
-    /// The next PDU, waiting for one. None once no sender is left and no PDU is waiting.
+    /// Returns the next PDU, and waits for one. None once no sender is left and no PDU is waiting.
     pub fn receive<R: Wait>(&self, rt: &R) -> Option<Pdu> {
         self.from.recv(rt).ok()
     }

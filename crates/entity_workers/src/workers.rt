@@ -94,7 +94,7 @@ pub fn run_workers_from<
     )
 }
 
-// The PDU itself; the contract adds that some octets are read as it.
+// Returns the PDU itself; the contract adds that some octets are read as it.
 fn spelled(pdu: Pdu) -> Pdu
     ensures same { result ≡ pdu }
     ensures read { reading (written pdu) ≡ Ok pdu }

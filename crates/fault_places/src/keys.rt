@@ -26,7 +26,7 @@ pub(crate) fn push_unknown(text: &mut String, table: &Table, spot: Spot) -> Resu
     }
 }
 
-// Adds the first key of a table that is none of these.
+// Adds the first key of a table that isn't one of these.
 fn push_other(text: &mut String, table: &Table, known: &[Key]) -> Result<(), AllocError> {
     for name in table.keys() {
         if !is_among(name.as_str(), known) {
@@ -45,7 +45,7 @@ fn is_among(name: &str, keys: &[Key]) -> bool {
     false
 }
 
-/// Adds the key that a fault is about. One of a handler comes with its table's, as in `send.nak_limit`.
+/// Adds the key that a fault is about. A handler's key comes after its table's, as in `send.nak_limit`.
 pub(crate) fn push_key(
     text: &mut String,
     table: &Table,
@@ -63,7 +63,7 @@ pub(crate) fn push_key(
     }
 }
 
-// Adds a key whose value has the wrong type. A key of handlers is looked for in each table of them.
+// Adds a key whose value has the wrong type. A handler's key is looked for in each table of handlers.
 fn push_wrong_type(text: &mut String, table: &Table, key: Key) -> Result<(), AllocError> {
     if condition_of(key).is_none() {
         return text.push_str(key.name());
@@ -77,7 +77,7 @@ fn push_wrong_type(text: &mut String, table: &Table, key: Key) -> Result<(), All
     text.push_str(key.name())
 }
 
-// Whether a table of handlers has a value at a key that isn't a text.
+// Whether the value that a table of handlers has at a key isn't a text; false if it has none.
 fn is_no_text(table: &Table, outer: Key, key: Key) -> bool {
     let Some(handlers) = handlers_in(table, outer) else {
         return false;
@@ -92,7 +92,7 @@ fn handlers_in(table: &Table, outer: Key) -> Option<&Table> {
     table.get(outer.name())?.as_table()
 }
 
-// Adds the key of a handler that isn't known or not allowed, or of a condition that isn't known.
+// Adds the first key that is not a known condition, or else the key of the first handler that isn't known or allowed.
 fn push_handler(text: &mut String, table: &Table, outer: Key) -> Result<(), AllocError> {
     text.push_str(outer.name())?;
     let Some(handlers) = handlers_in(table, outer) else {
@@ -141,7 +141,7 @@ fn may_have(outer: Key, key: Key, handler: Handler) -> bool {
     false
 }
 
-/// Adds the handlers allowed at a key such as `send.nak_limit`; nothing if no such key is known.
+/// Adds the handlers allowed at a key such as `send.nak_limit`. Adds nothing if no such key is known.
 pub fn push_handlers(text: &mut String, path: &str) -> Result<(), AllocError> {
     match keys_of(path) {
         Some((table, key)) => push_allowed(text, table, key),
@@ -174,7 +174,7 @@ fn condition_named(name: &str) -> Option<Key> {
     None
 }
 
-// Adds the handlers that a table of them may have at a key.
+// Adds the handlers that a table of handlers may have at a key.
 fn push_allowed(text: &mut String, table: Key, key: Key) -> Result<(), AllocError> {
     let mut between = "";
     for handler in HANDLERS {
@@ -196,7 +196,7 @@ fn word_of(handler: Handler) -> &'static str {
     }
 }
 
-// The condition that a key of handlers is about.
+// The condition that a handler's key is about.
 fn condition_of(key: Key) -> Option<Condition> {
     match key {
         Key::PositiveAckLimit => Some(Condition::POSITIVE_ACK_LIMIT),

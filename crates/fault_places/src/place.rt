@@ -14,7 +14,7 @@ pub struct Place {
     pub spot: Spot,
     /// The ID of the entity that the table is about, if it has one that is a number.
     pub id: Option<i64>,
-    /// The key in that table, such as `ack_ms` or `send.nak_limit`; empty if the fault isn't that of a key.
+    /// The key in that table, such as `ack_ms` or `send.nak_limit`; empty if the fault isn't about a key.
     pub key: String,
     /// The line of the text, counted from 1: that of the key, or of the table where the key should be.
     pub line: Option<u64>,

@@ -2,7 +2,7 @@
 ghost use Rattle.std.specs.Prelude.{◌≡◌};
 ghost use Rattle.fault_places.specs.Scans.{after, ends_whole, header_ended, in_start, is_blank, is_mark, key_ended, newline, noted, one_more, table_begun, with_here, with_octet};
 
-/// What is looked for: names with dots between them, the first one that of a table.
+/// What is looked for: names with dots between them, the first of which is a table's.
 #[derive(Clone, Copy, Debug)]
 pub struct Sought<'a> {
     pub path: &'a [u8],

@@ -14,7 +14,7 @@ pub record FolderValue : Type 0 where
   pub failures : ℕ
 
 -- a deposit fails with BadName exactly at a bad name; a kept file is found with these octets after a power cut; it is
--- stored over a part, and nothing else changes but that the whole file may be under its name
+-- stored by way of a part, and nothing else changes but that the whole file may be under its name
 pub record FolderDeposits (before : FolderValue) (name octets : List ℕ) (result : Result (Unit {0}) StoreFault) (after : FolderValue) : Type 0 where
   pub ok : OnOk result (IsFileName name)
   pub bad_name : (result ≡ Err BadName) ↔ ¬ (IsFileName name)

@@ -39,7 +39,7 @@ abbrev pub joined_if : Bool → ℕ → List Run → List Run
 joined_if true offset runs = joined offset runs
 joined_if false offset runs = runs
 
--- the maximal runs of a set among so many offsets from `offset` on, rising
+-- the maximal runs of a set among this many offsets from `offset` on, rising
 unfoldable pub runs_from : (ℕ → Bool) → ℕ → ℕ → List Run
 runs_from set offset zero = []
 runs_from set offset (suc count) = joined_if (set offset) offset (runs_from set (offset + 1) count)

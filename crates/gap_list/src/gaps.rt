@@ -3,8 +3,7 @@ use crate::{edit, search, walk};
 use std::alloc::{AllocError, Global};
 use std::marker::Model;
 
-/// The set of a file's offsets that are covered. Contracts see it by `covered`, and for how many more runs there is
-/// room.
+/// The set of a file's covered offsets. Contracts see what is `covered`, and how many more runs there is room for.
 ///
 /// It is kept as rising runs that don't touch, so a file that arrives in order costs one run.
 #[derive(Debug, Drop)]
@@ -77,7 +76,7 @@ impl Gaps {
         Ok(Some(spare))
     }
 
-    /// Moves the runs into the spare set, if one is given; what the spare set covered is dropped.
+    /// Moves the runs into the spare set, if one is given. What the spare set covered is dropped.
     pub fn move_to(&mut self, spare: Option<Gaps>)
         requires { HasRoomWith self.old spare 0 }
         ensures same { SameSet (covered self.new) (covered self.old) }
@@ -100,7 +99,7 @@ impl Gaps {
         }
     }
 
-    /// Uncovers the offsets from `start` to `end` - 1, without allocating; this may split a run.
+    /// Uncovers the offsets from `start` to `end` - 1, without allocating. This may split a run.
     pub fn remove(&mut self, start: u32, end: u32)
         requires ordered { start ≤ end }
         requires room { 0 < self.old.room }
@@ -112,8 +111,7 @@ impl Gaps {
         }
     }
 
-    /// Covers the offsets from `start` to `end` - 1, and returns those that are new, as maximal runs from the
-    /// lowest up.
+    /// Covers the offsets from `start` to `end` - 1. Returns the new ones as maximal runs, from the lowest up.
     pub fn cover(&mut self, start: u32, end: u32) -> Result<Runs, AllocError>
         requires { start ≤ end }
         ensures added { OnOk result

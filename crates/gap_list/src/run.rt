@@ -7,5 +7,5 @@ pub struct Run {
     pub end: u32,
 }
 
-/// Runs of offsets, most often one, which then takes no memory of its own.
+/// Runs of offsets. A single run, the usual case, takes no memory of its own.
 pub type Runs = SmallVec<Run, 1>;

@@ -67,7 +67,8 @@ line_of gone = by gone.way
 abbrev pub has_file : ℕ → OutgoingValue → Bool
 has_file number o = is_named number o.reading || (list_any (has_number number) o.returned || list_any (has_number number) o.outbox.waiting)
 
--- a user's file is queued in both, with the file's next number; or in neither: nothing changed, or it was taken out again
+-- a user's file is queued in both, with the file's next number; or in neither: nothing changed, or it was taken out
+-- again
 pub record Queues (user : ℕ) (file : OutboxFile) (words : List ℕ) (now : ℕ) (held : HeldValue) (outgoing : OutgoingValue) (result : Result ℕ HeldFault) (held_then : HeldValue) (outgoing_then : OutgoingValue) : Type 0 where
   pub number : IfOk result (λ number. number ≡ held.file.book.next)
   pub waits : OnOk result (outgoing_then ≡ queued_as_at held.file.book.next user file now outgoing)

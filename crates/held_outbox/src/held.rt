@@ -19,10 +19,10 @@ const REST_MS: u64 = 1_000;
 /// Why something isn't done with the outbox.
 #[derive(Clone, Copy, Debug, PartialEq, Eq)]
 pub enum HeldFault {
-    /// As many files as may wait do, those under way included; or the numbers are used up.
+    /// As many files wait as may, those under way included; or the numbers are used up.
     Full,
     NoMemory,
-    /// The file can't be read or written, or has a line that says nothing.
+    /// The file can't be read or written, or has a line that can't be parsed.
     Disk,
     /// Words of the file don't put a file in the outbox, by the configuration.
     NoFile,
@@ -45,7 +45,7 @@ pub struct Gone {
     pub way: Way,
 }
 
-/// The file of an outbox, and what it doesn't say yet since the disk didn't take it.
+/// The file of an outbox, and what it doesn't say yet because the disk didn't take it.
 #[derive(Drop)]
 pub struct HeldOutbox<D: Disk + Drop> {
     stored: StoredOutbox<D>,
@@ -80,7 +80,7 @@ impl<D: Disk + Drop> HeldOutbox<D> {
         }
     }
 
-    /// The files that were queued and neither ended nor were dropped, in that order.
+    /// The files that were queued and have neither ended nor been dropped, in the order in which they were queued.
     pub fn entries(&self) -> &[Entry]
         ensures { result.now ≡ self.now.file.book.entries }
     {
@@ -94,8 +94,8 @@ impl<D: Disk + Drop> HeldOutbox<D> {
         self.stored.next()
     }
 
-    /// Puts a user's file in the outbox and in its file, by the words of its command. If the disk doesn't take it, it is in
-    /// neither.
+    /// Puts a user's file in the outbox and in its file, by the words of its command. If the disk doesn't take it, it
+    /// is in neither.
     pub fn queue(
         &mut self,
         outgoing: &mut Outgoing,
@@ -150,8 +150,8 @@ impl<D: Disk + Drop> HeldOutbox<D> {
         self.stored.began(number).map_err(fault_of)
     }
 
-    /// Notes in the file which one left for good. What the disk doesn't take is noted later; without memory for that it comes
-    /// back in the next run.
+    /// Notes in the file that one left for good. What the disk doesn't take is noted later. Without memory for that,
+    /// the one that left comes back in the next run.
     pub fn leave(&mut self, gone: Gone, now: u64) -> Result<(), AllocError>
         ensures ok { OnOk result (Leaves gone now self.old self.new) }
         ensures err { OnErr result (StaysOwed gone now self.old self.new) }
@@ -166,8 +166,8 @@ impl<D: Disk + Drop> HeldOutbox<D> {
         }
     }
 
-    /// Tries again to note the first file that left and isn't noted, at most once a second while the disk takes nothing. Returns
-    /// whether one was noted.
+    /// Tries again to note the first file that left and isn't noted, at most once a second while the disk takes
+    /// nothing. Returns whether one was noted.
     pub fn settle(&mut self, now: u64) -> bool
         ensures noted { result ≡ true → Settles now self.old self.new }
         ensures not { result ≡ false → Waits now self.old self.new }
@@ -197,7 +197,7 @@ impl<D: Disk + Drop> HeldOutbox<D> {
         }
     }
 
-    // Notes in the file which one left for good.
+    // Notes in the file that one left for good.
     fn note(&mut self, gone: Gone) -> Result<(), HeldFault>
         ensures notes { NotesLine (line_of gone) self.old.file result self.new.file }
         ensures owed { self.new.owed ≡ self.old.owed }
@@ -211,7 +211,7 @@ impl<D: Disk + Drop> HeldOutbox<D> {
     }
 }
 
-// The fault of an outbox whose file has one.
+// The fault of an outbox, by that of its file.
 fn fault_of(why: StoredOutboxFault) -> HeldFault {
     match why {
         StoredOutboxFault::NoMemory => HeldFault::NoMemory,

@@ -1,4 +1,4 @@
-//! What an outbox's file says comes back into memory.
+//! Brings what an outbox's file says back into memory.
 ghost use Rattle.std.specs.Prelude.{◌≡◌, ◌⊎◌, Err, None, OnErr, OnOk};
 ghost use Rattle.server_lines.specs.Commands.{command_of};
 ghost use Rattle.held_outbox.specs.Held.{Restores, file_of, sent_in};
@@ -27,8 +27,8 @@ pub fn file_of(send: SendCommand, since: u64) -> OutboxFile
     }
 }
 
-/// Puts a file in the outbox that an earlier run left in its file, with its number, its moment, and what its words say by the
-/// configuration.
+/// Puts a file in the outbox that an earlier run left in its file, with its number, its moment, and what its words say
+/// by the configuration.
 pub fn restore_one(
     alloc: Global,
     config: &Config,

@@ -148,7 +148,7 @@ check_limit = 2
 checksum = "null"
 "#;
 
-// Reads a configuration; answers whether there was memory for it.
+// Reads a configuration, and returns whether there was memory for it.
 fn configure(alloc: Global, transcript: &mut Transcript) -> Result<bool, AllocError> {
     match &read_config(alloc, CONFIG) {
         Ok(config) if config.users() == 2 && config.remotes() == 2 => {
@@ -165,7 +165,7 @@ fn configure(alloc: Global, transcript: &mut Transcript) -> Result<bool, AllocEr
 // How many timers are armed.
 const TIMERS: u32 = 20;
 
-// Arms timers in one list, until they come due.
+// Arms timers in one list, and then takes them as they come due.
 fn arm_timers(alloc: Global, transcript: &mut Transcript) -> Result<(), AllocError> {
     let mut timers = TimerList::new(alloc);
     for stamp in 0..TIMERS {

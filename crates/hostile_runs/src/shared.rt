@@ -27,7 +27,7 @@ const EMPTY_FILES: [&[u8]; 4] = [
     b"\x24\x00\x0a\x00\x01\x06\x02\x04\x00\x00\x00\x00\x00\x00\x00\x00\x00",
 ];
 
-// How many bundles the first user may take, and one more.
+// One more than the bundles that the first user may take.
 const TAKES: u32 = 8;
 
 /// Opens queues, and an entity with them, and delivers files to it.
@@ -49,7 +49,7 @@ pub(crate) fn play<R: Threads + Wait + Copy + Send + Sync>(
     Ok(())
 }
 
-// Opens an entity with the queues of the reference configuration; answers whether there was memory for both.
+// Opens an entity with the queues of the reference configuration, and returns whether there was memory for both.
 fn open_once<R: Threads + Wait + Copy + Send + Sync>(
     rt: R,
     alloc: Global,
@@ -62,7 +62,7 @@ fn open_once<R: Threads + Wait + Copy + Send + Sync>(
     play_named::<Brand, R>(rt, alloc, transcript, config, queues)
 }
 
-// Opens an entity with named queues, and plays; answers whether there was memory. The entity is closed and not dropped,
+// Opens an entity with named queues, and plays. Returns whether there was memory. The entity is closed and not dropped,
 // since the proof of what drops one is expensive.
 fn play_named<N: Names + Send + Sync, R: Threads + Wait + Copy + Send + Sync>(
     rt: R,
@@ -151,8 +151,8 @@ fn note_stored<N: Names, R: Wait + Copy>(
     note_code(transcript, "stored", code)
 }
 
-/// An answer as a number. That of a step has the number of its transaction, and with a digit each how many PDUs and how
-/// many operations on timers it gave, and the stamp of its deposit. A refusal has its own number.
+/// An answer as a number. For a step it has the number of its transaction, and a digit each for the number of PDUs, the
+/// number of timer operations, and the stamp of its deposit. A refusal has its own number.
 pub(crate) fn code_of(answer: &Answered) -> u64 {
     match answer {
         Ok(Ok(done)) => {

@@ -41,7 +41,7 @@ fn one_slot(alloc: Global) -> Result<Vec<Slot>, AllocError> {
 }
 
 /// Notes whether an intake takes a datagram: one that waits for a worker, and one that no worker can receive any more.
-/// Answers whether there was memory for the intake.
+/// Returns whether there was memory for the intake.
 pub(crate) fn note_intake<R: Wait>(
     rt: &R,
     alloc: Global,
@@ -99,8 +99,8 @@ fn filled<R: Wait>(rt: &R, alloc: Global) -> Result<IntakeEnd, AllocError> {
     Ok(end)
 }
 
-/// Has a worker bring the datagram to its lane; returns whether there was memory. A thread that can't be started because
-/// memory ran out is reported as such.
+/// Has a worker bring the datagram to its lane, and returns whether there was memory. A thread that can't be started
+/// because memory ran out is reported as such.
 pub(crate) fn carry<N: Names + Send + Sync, R: Threads + Wait + Copy + Send + Sync>(
     rt: &R,
     alloc: Global,

@@ -9,8 +9,8 @@ use std::alloc::{AllocError, Global};
 #[derive(Clone, Copy, Debug, PartialEq, Eq)]
 pub struct NotAWord;
 
-/// Reads the indications of one transaction in order, at its sender or at its receiver, and accepts each that
-/// keeps them the beginning of a word.
+/// Reads the indications of one transaction in order, at its sender or at its receiver. Accepts an indication only
+/// where it and those accepted before are the beginning of a word.
 #[derive(Drop)]
 pub struct WordReader {
     side: Side,
@@ -44,8 +44,8 @@ impl WordReader {
         Ok(WordReader::of(side, Some(segments)))
     }
 
-    /// Accepts an indication if it may come next and there is room for its segment. Does not allocate. A segment
-    /// costs a binary search among the runs of the segments before it, and moving the runs above it.
+    /// Accepts an indication if it may come next and there is room for its segment. Does not allocate. A segment costs
+    /// a binary search among the runs of the earlier segments, and moves the runs above it.
     pub fn next(&mut self, indication: &Indication) -> Result<(), NotAWord>
         ensures exact { (side : Side) (room : ℕ) (word : List Indication) → StandsAfter self.old side room word
             → (IsOk result ↔ MayGoOn side room word indication.now) }

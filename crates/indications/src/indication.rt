@@ -20,7 +20,7 @@ pub enum Phase {
     Closing,
 }
 
-/// What a Metadata-Recv tells.
+/// What a Metadata-Recv indication reports.
 #[derive(Clone, Debug, Drop, PartialEq, Eq)]
 pub struct ReceivedMetadata {
     pub source: EntityId,
@@ -136,7 +136,7 @@ impl Indications {
         self.items.as_slice()
     }
 
-    /// Moves the indications to the end of a vector, which has room for them. It does not allocate.
+    /// Moves the indications to the end of a vector, which has room for them. Does not allocate.
     pub fn append_to(self, told: &mut Vec<Indication>)
         requires { vec_len told.old + length self ≤ vec_capacity told.old }
         ensures { told.new.items ≡ told.old.items ++ self }

@@ -21,7 +21,7 @@ pub trait Outlet {
     /// The effect of an offer that is refused.
     ghost returns: { Self → Self → Type 0 };
 
-    /// Appends a bundle of this lane to the queue, after what the lane sent before; gives it back where the queue
+    /// Appends a bundle of this lane to the queue, after those that the lane sent before. Gives it back where the queue
     /// is full.
     fn offer(&mut self, bundle: Bundle) -> Result<(), Bundle>
         requires of_user { bundle.user ≡ user self.old }

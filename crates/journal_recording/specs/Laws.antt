@@ -15,8 +15,8 @@ TakesAll = (config : ConfigValue) (first : Option ℕ) (place : Place) (journal 
     → (is : IsScriptOf config first place journal text)
     → taken_by (first_lane is.begun) is.history place.user ≡ mine (first_lane is.begun) is.history place.user
 
--- where the lane's transaction with a number has these very events, the takes give, of that transaction, exactly what the log
--- of the journal issues
+-- where the lane's transaction with a number has exactly these events, what the takes give of that transaction is
+-- exactly what the log of the journal issues
 abbrev pub TakesWhatWasIssued : Type 0
 TakesWhatWasIssued = (config : ConfigValue) (first : Option ℕ) (place : Place) (journal : List Event) (text : List ℕ) (number : ℕ)
     → (is : IsScriptOf config first place journal text)

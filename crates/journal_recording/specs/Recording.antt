@@ -25,7 +25,7 @@ abbrev pub first_text : Option ℕ → List ℕ
 first_text None = []
 first_text (Some first) = row_text (first_words first)
 
--- a user's name; nothing for a user that there is not
+-- a user's name; nothing for a user that doesn't exist
 abbrev pub name_in : ConfigValue → ℕ → List ℕ
 name_in config user = named (slice_get config.users user)
   where
@@ -45,8 +45,8 @@ abbrev pub take_text : Bool → List ℕ → List ℕ
 take_text true name = row_text (take_words name)
 take_text false name = []
 
--- an event is given to the entity, as it once came, and a step of a lane it becomes; where its user was told of it, a take
--- follows; and these are the lines
+-- an event is passed to the entity, as it once came, and becomes a step of a lane; where it issued indications to its
+-- user, a take follows; and these are the lines
 pub record Step (config : ConfigValue) (name : List ℕ) (place : Place) (earlier : List Happening) (event : Event) (later : List Happening) (text : List ℕ) : Type 0 where
   pub routed : Routed
   pub goes : route config (caller_event place.user place.lane event) ≡ Ok routed
@@ -63,8 +63,8 @@ Steps config name place earlier (event ∷ events) later text =
 
 -- ---- the script
 
--- a text is the script of a journal: played in a fresh entity, whose numbers begin as the script says, each of its events is
--- accepted where it goes, each of its takes finds a bundle, and at the end none is left
+-- a text is the script of a journal: played in a fresh entity, whose numbers begin as the script says, each of its
+-- events is accepted where it goes, each of its takes finds a bundle, and at the end none is left
 pub record IsScriptOf (config : ConfigValue) (first : Option ℕ) (place : Place) (journal : List Event) (text : List ℕ) : Type 0 where
   pub begun : ConfigValue
   pub begins : BeginsWith config first begun
@@ -79,7 +79,7 @@ pub record IsScriptOf (config : ConfigValue) (first : Option ℕ) (place : Place
 
 -- ---- while it is made
 
--- an entity has played one event more, and its lines were added
+-- an entity has played one more event, and its lines were added
 pub record HasPlayedOne (config : ConfigValue) (name : List ℕ) (place : Place) (earlier : List Happening) (event : Event) (world : WorldValue) (old new : List ℕ) : Type 0 where
   pub later : List Happening
   pub said : List ℕ
@@ -87,7 +87,7 @@ pub record HasPlayedOne (config : ConfigValue) (name : List ℕ) (place : Place)
   pub stands : StandsAfter world later
   pub text_is : new ≡ old ++ said
 
--- an entity has played these events more, and their lines were added
+-- an entity has played these further events, and their lines were added
 pub record HasPlayed (config : ConfigValue) (name : List ℕ) (place : Place) (earlier : List Happening) (events : List Event) (world : WorldValue) (old new : List ℕ) : Type 0 where
   pub later : List Happening
   pub said : List ℕ

@@ -7,8 +7,8 @@ pub fn takes_all()
     ensures { TakesAll }
 {}
 
-/// Where the lane's transaction has the journal's very events, the script's takes give, of that transaction, exactly the
-/// indications that the log of the journal issues.
+/// Where the lane's transaction has exactly the journal's events, what the script's takes give of that transaction is
+/// exactly the indications that the log of the journal issues.
 pub fn takes_what_was_issued()
     ensures { TakesWhatWasIssued }
 {}

@@ -15,7 +15,7 @@ use std::alloc::{AllocError, Global};
 use txn_events::{Event, Refusal, What};
 use world_core::{EntityRefusal, World, WorldEvent};
 
-// How many octets of room an event has beside the digits of its file's octets. More than that only few need.
+// Room for an event in octets, in addition to the digits of its file's octets. Only few events need more.
 const LINE_ROOM: usize = 128;
 
 /// Why a journal has no script.
@@ -23,7 +23,7 @@ const LINE_ROOM: usize = 128;
 pub enum ScriptFault {
     /// Lines can't have one of the events: a put with messages, or with a name that is not a word of ASCII.
     NotPlain,
-    /// A fresh entity of this configuration doesn't take the events as they came.
+    /// A fresh entity with this configuration doesn't accept the events as they came.
     NotPlayed,
     /// Memory ran out.
     NoMemory,
@@ -40,9 +40,10 @@ impl From<AllocError> for ScriptFault {
     }
 }
 
-/// The script of a journal: lines that bring a fresh entity of this configuration through the events of the lane at a
-/// place, with a take after each event that its user was told of. For a transaction that the entity itself opened,
-/// `first` is where the numbers of its lanes have to begin. To see where a take belongs, the events are played.
+/// Returns the script of a journal: lines that take a fresh entity with this configuration through the events of the
+/// lane at a place, with a take after each event that issued indications to the lane's user. For a transaction that the
+/// entity itself opened, `first` is where the numbers of its lanes must begin. The events are played, to see where a
+/// take belongs.
 pub fn script_of(
     alloc: Global,
     config: Config,
@@ -158,7 +159,7 @@ fn play(
     Ok(())
 }
 
-// Gives the entity an event, which it has to accept.
+// Passes an event to the entity, which must accept it.
 fn step(world: &mut World, given: &WorldEvent) -> Result<Done, ScriptFault>
     ensures config { OnOk result (world.new.config ≡ world.old.config) }
     ensures answered { (earlier : List Happening) → StandsAfter world.old earlier

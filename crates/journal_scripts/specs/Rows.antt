@@ -25,13 +25,13 @@ line_of [] = []
 line_of (word ∷ []) = word
 line_of (word ∷ next ∷ words) = word ++ (32 ∷ line_of (next ∷ words))
 
--- the same with a line feed behind it
+-- the same with a line feed after it
 abbrev pub row_text : List (List ℕ) → List ℕ
 row_text [] = codes "\n"
 row_text (word ∷ []) = word ++ codes "\n"
 row_text (word ∷ next ∷ words) = word ++ (32 ∷ row_text (next ∷ words))
 
--- ---- before the first event, and behind an event that its user was told of
+-- ---- before the first event, and after an event that issued indications to its user
 
 abbrev pub first_words : ℕ → List (List ℕ)
 first_words first = codes "set" ∷ codes "first" ∷ decimal first ∷ []
@@ -99,12 +99,12 @@ abbrev pub closure_words : Bool → List (List ℕ)
 closure_words true = codes "closure" ∷ []
 closure_words false = []
 
--- a file in so many pieces of the greatest length, and a last one
+-- a file in this many pieces of the greatest length, and a last one
 abbrev pub pieces_in : ℕ → List ℕ → List (List ℕ)
 pieces_in zero file = file ∷ []
 pieces_in (suc more) file = take PIECE_OCTETS file ∷ pieces_in more (drop PIECE_OCTETS file)
 
--- how many pieces of the greatest length stand before the last
+-- how many pieces of the greatest length come before the last
 abbrev pub whole_pieces : List ℕ → ℕ
 whole_pieces file = (length file - 1) / PIECE_OCTETS
 

@@ -9,8 +9,8 @@ use pdu_codec::{Pdu, encode};
 use std::alloc::{AllocError, Global};
 use txn_events::{Event, What};
 
-/// Adds the lines of an event at a lane of the user with this name, and answers whether lines can have that event. There
-/// is none for a put with messages, or with a name that is not a word of ASCII: then nothing is added.
+/// Adds the lines of an event at a lane of the user with this name, and returns whether lines can have that event.
+/// Lines can't have a put with messages, or with a name that is not a word of ASCII: then nothing is added.
 pub fn push_event(
     alloc: Global,
     text: &mut String,

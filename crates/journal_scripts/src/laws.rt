@@ -2,8 +2,8 @@
 
 ghost use Rattle.journal_scripts.specs.Laws.{GathersFiles, ReadsBack};
 
-/// The line of each event is read back as that event, as the entity's caller gives it: by the names of the configuration's
-/// users, and where a put's file has been gathered.
+/// The line of each event is read back as that event, in the form in which the entity's caller gives it: by the names
+/// of the configuration's users, and where a put's file has been gathered.
 pub fn reads_back()
     ensures { ReadsBack }
 {}

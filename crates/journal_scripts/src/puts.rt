@@ -12,7 +12,7 @@ use std::alloc::{AllocError, Global};
 /// The most octets of a file that one line gathers.
 pub const PIECE_OCTETS: usize = 32_768;
 
-/// Adds the rows of a put from a lane of the user with this name, and answers whether rows can have it.
+/// Adds the rows of a put from a lane of the user with this name, and returns whether rows can have it.
 pub(crate) fn push_put(
     alloc: Global,
     text: &mut String,
@@ -90,7 +90,7 @@ fn push_piece(alloc: Global, text: &mut String, piece: &[u8]) -> Result<(), Allo
     text.push_str("\n")
 }
 
-// Adds the row of a put behind those of its file.
+// Adds the row of a put after those of its file.
 fn push_row(
     text: &mut String,
     name: &str,

@@ -1,11 +1,11 @@
-//! Rows that stand beside the events. Each function appends to `text`; after an `Err` the text is not to be used.
+//! Rows other than those of events. Each function appends to `text`; after an `Err` the text is not to be used.
 ghost use Rattle.std.specs.Prelude.{◌≡◌, ◌++◌, OnOk, string_bytes};
 ghost use Rattle.journal_scripts.specs.Rows.{first_words, row_text, take_words};
 
 use std::alloc::AllocError;
 
-/// Adds the line that a script has before the first event of a transaction that its own entity opened: where the numbers
-/// of its lanes begin.
+/// Adds the line that a script has before the first event of a transaction that its own entity opened. The line says
+/// where the numbers of the entity's lanes begin.
 pub fn push_first(text: &mut String, first: u64) -> Result<(), AllocError>
     ensures { OnOk result (string_bytes text.new ≡ string_bytes text.old ++ row_text (first_words first)) }
 {

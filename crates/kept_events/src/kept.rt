@@ -8,7 +8,7 @@ use event_levels::Level;
 use std::alloc::{AllocError, Global};
 use std::marker::Model;
 
-/// The last events, and the last ones of `info` and above, so that many details push nothing else out. Texts stand in
+/// The last events, and the last ones of `info` and above, so that many details push nothing else out. Each text is in
 /// memory once. Contracts see both lists, oldest first.
 #[derive(Drop)]
 pub struct KeptEvents {
@@ -38,7 +38,7 @@ impl KeptEvents {
         })
     }
 
-    /// Keeps one more event, a line, and drops the oldest ones for which there is no room besides it.
+    /// Keeps one more event, a line, and drops the oldest ones that have no room beside it.
     pub fn push(&mut self, level: Level, line: &[u8]) -> Result<(), AllocError>
         ensures ok { OnOk result (self.new ≡ kept_with (kept_line level line.now) self.old) }
         ensures err { OnErr result (self.new ≡ self.old) }
@@ -52,8 +52,8 @@ impl KeptEvents {
         Ok(())
     }
 
-    /// Adds the last events of a level or above, at most so many, each after a word. If memory runs out, a part may
-    /// stand there.
+    /// Adds the last events of a level or above, at most so many, each after a word. If memory runs out, a part of them
+    /// may have been added.
     pub fn push_last(
         &self,
         text: &mut Vec<u8>,

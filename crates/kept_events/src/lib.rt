@@ -1,4 +1,4 @@
-//! The last events of a server, those that matter beside all.
+//! The last events of a server: of all, and of those that matter.
 #![tactic(auto)]
 
 mod kept;

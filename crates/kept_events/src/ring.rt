@@ -63,7 +63,7 @@ impl Ring {
         })
     }
 
-    /// Keeps one more line, and drops the oldest ones for which there is no room besides it.
+    /// Keeps one more line, and drops the oldest ones that have no room beside it.
     pub fn push(&mut self, line: KeptLine)
         ensures { self.new ≡ pushed line self.old }
     {
@@ -90,8 +90,8 @@ impl Ring {
             .count()
     }
 
-    /// Adds the last lines of a level or above, at most so many, each after a word. If memory runs out, a part may
-    /// stand there.
+    /// Adds the last lines of a level or above, at most so many, each after a word. If memory runs out, a part of them
+    /// may have been added.
     pub fn push_last(
         &self,
         text: &mut Vec<u8>,
@@ -107,7 +107,7 @@ impl Ring {
     }
 }
 
-// Adds the lines of a level or above, but for so many of the first ones, each after a word.
+// Adds the lines of a level or above, without so many of the first ones, each after a word.
 fn push_behind(
     lines: &VecDeque<KeptLine>,
     text: &mut Vec<u8>,
@@ -146,7 +146,7 @@ fn push_line(text: &mut Vec<u8>, word: &[u8], line: &KeptLine, form: Form) -> Re
     }
 }
 
-// Drops the oldest lines until one of so many octets has room. Answers the octets of those that are left.
+// Drops the oldest lines until one of so many octets has room. Returns how many octets the remaining lines have.
 fn make_room(lines: &mut VecDeque<KeptLine>, octets: usize, more: usize) -> usize
     requires { octets ≡ octets_of lines.old.items }
     ensures lines { lines.new.items ≡ trimmed more lines.old.items }

@@ -1,8 +1,8 @@
 use pdu_values::{Ack, Body, Header, Pdu};
 use std::marker::Model;
 
-/// The ACK that goes back to a PDU of an old transaction. It needs no memory of its own, so a refusal has it also
-/// where memory runs out. Contracts see it as the PDU.
+/// The ACK that answers a PDU of an old transaction. It needs no memory of its own, so a refusal has it even where
+/// memory runs out. Contracts see it as the PDU.
 #[derive(Debug, Drop)]
 pub struct Echo {
     header: Header,

@@ -28,8 +28,8 @@ pub fn issued()
     ensures { SendsWhatLogsTell }
 {}
 
-/// The numbers of a sending lane's transactions give back the user and the lane, so that no two lanes share a number;
-/// for a lane among its user's, and a user among the entity's.
+/// The numbers of a sending lane's transactions determine the user and the lane, so no two lanes share a number. This
+/// holds for a lane among its user's and a user among the entity's.
 pub fn numbers()
     ensures { NumbersTellLanes }
 {}

@@ -5,6 +5,6 @@ use txn_events::Refusal;
 #[derive(Debug, Drop)]
 pub struct Refused {
     pub why: Refusal,
-    /// The PDU to send back to a PDU of an old transaction, if it gets one.
+    /// The ACK to send back to a PDU of an old transaction, if it gets one.
     pub echo: Option<Echo>,
 }

@@ -6,8 +6,8 @@ use cfdp_types::TxnKey;
 use std::alloc::{AllocError, Global};
 use txn_events::{Event, Refusal};
 
-/// Copies of the events that the transaction with `key` has accepted, in order, from the lane's last key and that
-/// transaction's events. They share their octets. Other keys are refused as by [`crate::how_far`].
+/// Copies of the events that the transaction with `key` has accepted, in order. They share their octets. `last` is the
+/// lane's last key, and `journal` has that transaction's events. Other keys are refused as by [`crate::how_far`].
 pub fn events_of(
     alloc: Global,
     last: Option<TxnKey>,

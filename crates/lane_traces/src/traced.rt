@@ -16,9 +16,9 @@ pub struct Traced {
     pub ended: bool,
 }
 
-/// The progress of the transaction with `key` at a lane, from the lane's last key and that transaction's events and
-/// indications, of which only the last is read. An older number of the same source is refused with `OldTransaction`,
-/// any other key with `NoTransaction`.
+/// The progress of the transaction with `key` at a lane. `last` is the lane's last key; `journal` and `told` are that
+/// transaction's events and indications. Of the indications, only the last is read. An older number of the same source
+/// is refused with `OldTransaction`, any other key with `NoTransaction`.
 pub fn how_far(
     last: Option<TxnKey>,
     journal: &[Event],

@@ -38,13 +38,13 @@ class_by number =
 abbrev pub class_of : List ℕ → Option Class
 class_of word = option_and_then class_by (decimal_of 2 word)
 
--- whether a put asks for closure, by the words after its operands: none, or the one word `closure`
+-- whether a put requests closure, by the words after its operands: none, or the one word `closure`
 abbrev pub closure_of : List (List ℕ) → Option Bool
 closure_of [] = Some false
 closure_of (word ∷ []) = if bytes_eq word (codes "closure") then Some true else None
 closure_of words = None
 
--- the request of a transaction that the first word of a line asks for
+-- the request on a transaction that the first word of a line names
 abbrev pub request_for : List ℕ → TxnKey → Option Request
 request_for kind key =
     if bytes_eq kind (codes "cancel") then Some (requests.Cancel key)

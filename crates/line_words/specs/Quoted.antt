@@ -39,7 +39,7 @@ hex_digit octet =
     else if nat_le 65 octet && nat_le octet 70 then Some (octet - 65 + 10)
     else None
 
--- the octet that two hex digits write
+-- the octet with these two hex digits
 abbrev pub digits_octet : Option ℕ → Option ℕ → Option ℕ
 digits_octet None low = None
 digits_octet (Some high) None = None
@@ -122,7 +122,7 @@ words_ending Bad r = None
 abbrev pub words_at_end : Reading → Option (List (List ℕ))
 words_at_end r = words_ending r.mode r
 
--- the words of a line, where each may stand in double quotes
+-- the words of a line, each of which may be in double quotes
 abbrev pub quoted_words_of : List ℕ → Option (List (List ℕ))
 quoted_words_of line = words_at_end (after start line)
 
@@ -134,7 +134,7 @@ has_quote line = list_any (λ octet. octet == 34) line
 abbrev pub is_ascii : List ℕ → Bool
 is_ascii line = list_all (λ octet. nat_lt octet 128) line
 
--- the words of a line of ASCII without quotes stand between spaces
+-- the words of a line of ASCII without quotes are between its spaces
 abbrev pub plain_words_of : List ℕ → Option (List (List ℕ))
 plain_words_of line = if is_ascii line then Some (words_of line) else None
 

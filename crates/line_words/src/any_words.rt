@@ -37,7 +37,7 @@ impl<'a> Words<'a> {
         }
     }
 
-    /// These words.
+    /// The words of a list.
     pub fn of_list(list: &'a [Octets]) -> Words<'a>
         ensures { result ≡ list.now }
     {

@@ -15,7 +15,7 @@ fn hex_digit(octet: u8) -> Option<u8>
     }
 }
 
-// The octet that two hex digits write.
+// The octet with these two hex digits; None if either isn't a hex digit.
 pub(crate) fn hex_octet(high: u8, low: u8) -> Option<u8>
     ensures { result ≡ hex_octet high low }
 {

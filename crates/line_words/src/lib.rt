@@ -1,5 +1,5 @@
-//! Splits a line into words in order, plain ones and those that double quotes hold together, and reads the operands that several
-//! kinds of lines share.
+//! Splits a line into words in order, plain ones and those in double quotes, and reads the operands that several kinds
+//! of lines share.
 #![tactic(auto)]
 
 mod any_words;

@@ -49,7 +49,7 @@ pub fn class_of(word: &[u8]) -> Option<Class>
     }
 }
 
-/// Whether a put asks for closure, by the words after its operands: true for the single word `closure`, false for no
+/// Whether a put requests closure, by the words after its operands: true for the single word `closure`, false for no
 /// word, and `None` for anything else.
 pub fn closure_of(rest: Rest<'_>) -> Option<bool>
     ensures { result ≡ closure_of (words_left (option_copied rest.entry)) }
@@ -63,7 +63,7 @@ pub fn closure_of(rest: Rest<'_>) -> Option<bool>
     }
 }
 
-/// The request of a transaction that the first word of a line asks for; `None` for a word that is no request.
+/// The request on a transaction that the first word of a line names; `None` for a word that isn't a request.
 pub fn request_for(kind: &[u8], key: TxnKey) -> Option<Request>
     ensures { result ≡ request_for kind.now key }
 {

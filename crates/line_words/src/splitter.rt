@@ -67,7 +67,7 @@ impl Model for Splitter {
     ghost view = { λ s. record { words = s.words.items; word = s.word.items; mode = s.mode } };
 }
 
-/// The words of a line, where each may stand in double quotes; `None` where the line isn't made of words.
+/// The words of a line, each of which may be in double quotes; `None` if the line is malformed.
 pub fn quoted_words(alloc: Global, line: &[u8]) -> Result<Option<WordList>, AllocError>
     ensures { IfOk result (λ words. words ≡ quoted_words_of line.now) }
 {

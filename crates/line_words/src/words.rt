@@ -37,7 +37,7 @@ pub fn last_word(rest: Rest<'_>) -> Option<&[u8]>
     Some(word)
 }
 
-/// The number that a word writes in decimal digits, if it is at most `limit`.
+/// The number that a word spells in decimal digits, if it is at most `limit`.
 pub fn decimal(word: &[u8], limit: u64) -> Option<u64>
     ensures { result ≡ decimal_of limit word.now }
 {

@@ -43,7 +43,8 @@ abbrev pub AreSeen : Numbers → List SendingLane → List ℕ → Type 0
 AreSeen numbers lanes [] = Unit {0}
 AreSeen numbers lanes (number ∷ later) = (is_open numbers number lanes ≡ true) × AreSeen numbers lanes later
 
--- the outbox begins a transaction with a number that is free, at a look that shows all that are open; nothing is asked of the others
+-- the outbox begins a transaction with a number that is free, at a look that shows all that are open; nothing is asked
+-- of the others
 abbrev pub MayMove : Move → Run → Type 0
 MayMove (begins lanes number) run = (standing run.numbers lanes number ≡ Free) × AreSeen run.numbers lanes run.unended
 MayMove (puts number) run = Unit {0}
@@ -64,8 +65,8 @@ abbrev pub IsAlone : ℕ → ℕ → List ℕ → Type 0
 IsAlone lanes number [] = Unit {0}
 IsAlone lanes number (other ∷ rest) = (has_remainder other number lanes ≡ false) × IsAlone lanes number rest
 
--- toward an entity with lanes, a transaction that the outbox begins has a number above all that began with the same remainder, and
--- none of those is open, whoever began them
+-- toward an entity with lanes, a transaction that the outbox begins has a number above all that began with the same
+-- remainder, and none of those is open, whoever began them
 abbrev pub BeginsInOrder : ℕ → Move → Run → Type 0
 BeginsInOrder lanes (begins seen number) run = IsAboveAll lanes number run.begun × IsAlone lanes number run.unended
 BeginsInOrder lanes (puts number) run = Unit {0}

@@ -3,8 +3,8 @@
 
 ghost use Rattle.lineup_laws.specs.LineupLaws.{GoesFree, RisesAlone};
 
-/// A transaction that the outbox begins has a greater number than each that began toward the entity before with the same
-/// remainder, and those have ended; whoever began them.
+/// A transaction that the outbox begins has a greater number than each that began toward the entity before with the
+/// same remainder, and those have ended, whoever began them.
 pub fn order()
     ensures { RisesAlone }
 {}

@@ -2,8 +2,8 @@ ghost use Rattle.std.specs.Prelude.{◌≡◌, ◌<◌, ◌≤◌, ◌+◌, ◌*
 ghost use Rattle.modular_sum.specs.Sum.{weight_of};
 ghost use Rattle.modular_sum.specs.Pieces.{sum_with};
 
-// Adds consecutive octets, the first of which is at `place` in its word: up to the next word one by one, then by
-// words.
+// Adds consecutive octets, the first of which is at `place` in its word: one by one up to the next word, then word by
+// word.
 #[tactic(auto, using(crate::proofs::SumLemmas::sum_with_row))]
 pub fn with_row(word: u32, place: usize, octets: &[u8]) -> u32
     requires { place < 4 }

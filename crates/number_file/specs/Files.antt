@@ -11,8 +11,8 @@ use Rattle.number_file.specs.declared.rounds.Rounds.{Rounds}
 use Rattle.number_file.specs.Rounds.{begun, last_number, number_at, written}
 use Rattle.number_file.specs.Texts.{beside, number_found, number_text}
 
--- a number is written, or was tried to be: at each moment what may be found at the path is what might be found before,
--- or the whole text of the number, and at no other path but the one beside it anything changes
+-- a number was written, or the write failed: at each moment, what may be found at the path is what might be found
+-- before or the whole text of the number; nothing changes at any other path but the one beside it
 abbrev pub Writes : List ℕ → ℕ → List Step → List Step → Type 0
 Writes path number before now = Changes (Is (beside path)) (Whole path (number_text number)) before now
 
@@ -26,7 +26,8 @@ pub record Reads (number : Option ℕ) (path : List ℕ) (before now : List Step
   pub says : number_found found ≡ number
   pub steps : now ≡ saw path found ∷ before
 
--- a run has its rounds: it began above the number that a read found, and the number of its first round is written and lasts
+-- a run has its rounds: it began above the number that a read found, and the number of its first round is written and
+-- lasts
 pub record Opens (path : List ℕ) (first width block : ℕ) (before now : List Step) (rounds : Rounds) : Type 0 where
   pub number : ℕ
   pub read : List Step
@@ -43,8 +44,8 @@ pub record Fails (path : List ℕ) (first width block : ℕ) (Why : Rounds → L
   pub reads : Reads (Some number) path before read
   pub why : Why (begun first number width block) read
 
--- why a run has none: the file can't be read, or a read found no number; the number of the first round is greater than a
--- file may hold; it can't be written
+-- why a run has none: the file can't be read, or a read found no number; the number of the first round is greater than
+-- a file may hold; it can't be written
 abbrev pub OpensNot : NumbersFault → List ℕ → ℕ → ℕ → ℕ → List Step → List Step → Type 0
 OpensNot Unreadable path first width block before now = (now ≡ before) ⊎ Reads None path before now
 OpensNot Over path first width block before now =

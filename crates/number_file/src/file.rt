@@ -24,11 +24,11 @@ pub enum NumbersFault {
     Over,
 }
 
-/// A file with a number above all that were given: a decimal number in a line.
+/// A file with a number above every number that was given, as a line of decimal digits.
 #[derive(Drop)]
 pub struct NumberFile {
     alloc: Global,
-    /// Its name, in the folder that the disk is.
+    /// Its name in the disk's own folder.
     pub path: String,
     /// The rounds that the file covers.
     pub rounds: Rounds,
@@ -112,7 +112,7 @@ fn read_number<D: Disk>(disk: &mut D, path: &str) -> Result<u64, NumbersFault>
     }
 }
 
-// Replaces the file by one with this number. Without memory nothing is asked of the disk.
+// Replaces the file by one with this number. The disk isn't asked if memory runs out or the name has a slash.
 fn write_number<D: Disk>(
     disk: &mut D,
     alloc: Global,
@@ -137,7 +137,7 @@ fn write_number<D: Disk>(
     )
 }
 
-// Whether a path leads into a folder below.
+// Whether a path has a slash, and so leads into a folder below.
 fn has_slash(path: &str) -> bool
     ensures { result ≡ list_any is_slash path.now }
 {

@@ -16,7 +16,8 @@ pub enum Cover {
     Over,
 }
 
-/// The rounds that a file covers. Each Put of a sending lane takes the lane's next round; all lanes begin at the same.
+/// The rounds that a file covers. Each Put of a sending lane takes the lane's next round; all lanes begin at the same
+/// round.
 #[derive(Clone, Copy, Debug, PartialEq, Eq)]
 pub struct Rounds {
     /// No lane's next round is above this one.

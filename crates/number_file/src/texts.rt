@@ -6,7 +6,8 @@ ghost use Rattle.number_file.specs.Texts.{line_of, number_in, value_of};
 
 use crate::rounds::LAST_NUMBER;
 
-/// The number in a text.
+/// The number in a text of decimal digits, with or without a line feed at its end; None for other texts and for numbers
+/// above `LAST_NUMBER`.
 pub(crate) fn number_in(text: &[u8]) -> Option<u64>
     ensures { result ≡ number_in text.now }
 {

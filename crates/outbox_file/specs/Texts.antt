@@ -20,7 +20,7 @@ numbered word number = word ++ (codes " " ++ decimal number)
 abbrev pub queued_text : Entry → List ℕ
 queued_text entry = codes "queued " ++ (decimal entry.number ++ (codes " " ++ (decimal entry.since ++ (codes " " ++ entry.words))))
 
--- what stands before the line feed of a line
+-- what comes before the line feed of a line
 abbrev pub line_words : Line → List ℕ
 line_words (Next number) = numbered (codes "next") number
 line_words (Queued entry) = queued_text entry
@@ -64,7 +64,7 @@ entry_line number since words = do
   of_since ← number_of since
   Some (Queued (record { number = of_number; since = of_since; words = words }))
 
--- the same, where the command's words are apart, and where all behind the number are
+-- the same, where the command's words are apart, and where all after the number are
 abbrev pub queued_since : List ℕ → List ℕ → List (List ℕ) → Option Line
 queued_since number since [] = None
 queued_since number since (word ∷ words) = entry_line number since (join_with_byte 32 (word ∷ words))
@@ -113,7 +113,7 @@ read_on reading octet =
 abbrev pub reading_of : List ℕ → Reading
 reading_of text = fold read_on unread text
 
--- what a file with this text says; what stands behind its last line feed says nothing
+-- what a file with this text says; what follows its last line feed says nothing
 abbrev pub book_in : List ℕ → Option BookValue
 book_in text = (reading_of text).book
 

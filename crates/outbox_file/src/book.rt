@@ -7,7 +7,7 @@ use crate::lines::Line;
 use cfdp_types::Octets;
 use std::alloc::{AllocError, Global};
 
-/// A file that was queued, and has neither ended nor was dropped.
+/// A file that was queued, and has neither ended nor been dropped.
 #[derive(Drop)]
 pub struct Entry {
     /// Its number in the outbox.

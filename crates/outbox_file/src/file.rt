@@ -19,7 +19,7 @@ use std::alloc::Global;
 use std::marker::Model;
 use whole_files::replace_beside;
 
-// How many times as long as it was when it was written as a whole a file may grow.
+// A file may grow to this many times the length that it had when it was written as a whole.
 const GROWTH: usize = 10;
 
 // A file that is shorter counts as this long.
@@ -28,11 +28,11 @@ const LEAST_OCTETS: usize = 4_096;
 /// Why nothing is noted.
 #[derive(Clone, Copy, Debug, PartialEq, Eq)]
 pub enum StoredOutboxFault {
-    /// The file can't be read, or has a line that says nothing.
+    /// The file can't be read, or has a line that can't be parsed.
     Unreadable,
     /// The file can't be written.
     Unwritable,
-    /// The words aren't a line, since they have a line feed.
+    /// The words aren't a line, because they have a line feed.
     NoLine,
     /// No number is left.
     Over,
@@ -40,14 +40,14 @@ pub enum StoredOutboxFault {
 }
 
 /// A file with what waits in an outbox, and what is under way from there. Each line is on the disk when the call that
-/// notes it returns. The disk's open file is this one, so the disk is for it alone.
+/// notes it returns. It is the disk's open file, so nothing else may use the disk.
 #[derive(Drop)]
 pub struct StoredOutbox<D: Disk + Drop> {
     disk: D,
     alloc: Global,
     path: String,
     book: Book,
-    // whether what stands on the disk is known: the last line could be written
+    // whether it is known what is on the disk: the last line could be written
     is_sound: bool,
     size: Size,
 }
@@ -94,10 +94,10 @@ impl<D: Disk + Drop> Model for StoredOutbox<D> {
 }
 
 impl<D: Disk + Drop> StoredOutbox<D> {
-    /// Opens the file of this name in the disk's own folder: reads it, and writes what it says again as a whole, so that
-    /// an error shows before anything is queued. If there is no file, nothing was queued yet. What follows the
-    /// last line feed is passed over: a cut of power tore that line. A file with a line that says nothing is left as it
-    /// is. A name with a slash can't be written.
+    /// Opens the file of this name in the disk's own folder: reads it, and writes what it says again as a whole, so
+    /// that an error shows before anything is queued. If there is no file, nothing was queued yet. What follows the
+    /// last line feed is ignored: a power cut tore that line. A file with a line that can't be parsed is left as it is.
+    /// A name with a slash can't be written.
     pub fn open(disk: D, alloc: Global, path: String) -> Result<StoredOutbox<D>, StoredOutboxFault>
         ensures { IfOk result (λ file. Opens (string_bytes path) (D.done disk) file) }
     {
@@ -117,7 +117,7 @@ impl<D: Disk + Drop> StoredOutbox<D> {
         })
     }
 
-    /// The files that were queued and neither ended nor were dropped, in that order.
+    /// The files that were queued and have neither ended nor been dropped, in the order in which they were queued.
     pub fn entries(&self) -> &[Entry]
         ensures { result.now ≡ self.now.book.entries }
     {
@@ -138,7 +138,8 @@ impl<D: Disk + Drop> StoredOutbox<D> {
         self.book.next
     }
 
-    /// Notes that a file waits since a moment, by the words of its command; returns its number.
+    /// Notes that a file waits since a moment, in milliseconds since the start of 1970, by the words of its command.
+    /// Returns its number.
     pub fn queued(&mut self, since: u64, words: &[u8]) -> Result<u64, StoredOutboxFault>
         ensures number { IfOk result (λ number. number ≡ self.old.book.next) }
         ensures over { self.old.book.next ≡ 2 ^ 64 - 1 → result ≡ Err StoredOutboxFault.Over }
@@ -185,7 +186,7 @@ impl<D: Disk + Drop> StoredOutbox<D> {
         self.note(Line::Dropped(number))
     }
 
-    // Notes a line: after the others, or, where the file has grown or isn't known, with all of them anew.
+    // Notes a line: appends it, or, if the file has grown too long or what it has isn't known, writes all lines anew.
     fn note(&mut self, line: Line) -> Result<(), StoredOutboxFault>
         requires { IsPlain line }
         ensures { NotesLine line self.old result self.new }
@@ -220,7 +221,7 @@ fn is_line(words: &[u8]) -> bool
     words.iter().all(|octet| *octet != b'\n')
 }
 
-// What the file says, nothing yet where there is none.
+// What the file says; if there is none, nothing was queued yet.
 fn read_book<D: Disk>(disk: &mut D, alloc: Global, path: &str) -> Result<Book, StoredOutboxFault>
     ensures { IfOk result (λ book. Reads path.now (value book) (D.done disk.old) (D.done disk.new)) }
 {
@@ -322,7 +323,7 @@ fn write_whole<D: Disk>(
     replace_beside(disk, beside.as_str(), path, text).map_err(|_| StoredOutboxFault::Unwritable)
 }
 
-// Whether a path leads into a folder below.
+// Whether a path has a slash, and so leads into another folder.
 fn has_slash(path: &str) -> bool
     ensures { result ≡ list_any is_slash path.now }
 {

@@ -24,7 +24,7 @@ pub enum Line {
     Dropped(u64),
 }
 
-/// Adds a line and its line feed to a text. If memory runs out, a part may be there.
+/// Adds a line and its line feed to a text. If memory runs out, a part of it may have been added.
 pub(crate) fn push_line(alloc: Global, text: &mut Vec<u8>, line: &Line) -> Result<(), AllocError>
     ensures { OnOk result (text.new.items ≡ text.old.items ++ line_text line.now) }
 {
@@ -65,7 +65,7 @@ pub(crate) fn push_queued(
     text.extend_from_slice(entry.words.as_slice())
 }
 
-/// What a line says, which stands here without its line feed.
+/// What a line says, given without its line feed; `None` if it can't be parsed.
 pub(crate) fn line_in(alloc: Global, text: &[u8]) -> Result<Option<Line>, AllocError>
     ensures { IfOk result (λ line. line ≡ line_in text.now) }
 {

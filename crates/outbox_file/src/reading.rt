@@ -8,7 +8,7 @@ use crate::book::Book;
 use crate::lines::{Line, line_in, push_line, push_queued};
 use std::alloc::{AllocError, Global};
 
-/// What a text says; `None` if one of its lines says nothing. What follows the last line feed is passed over.
+/// What a text says; `None` if one of its lines can't be parsed. What follows the last line feed is ignored.
 pub(crate) fn book_in(alloc: Global, text: &[u8]) -> Result<Option<Book>, AllocError>
     ensures { IfOk result (λ book. option_map value book ≡ book_in text.now) }
 {
@@ -32,7 +32,7 @@ pub(crate) fn book_in(alloc: Global, text: &[u8]) -> Result<Option<Book>, AllocE
     Ok(Some(book))
 }
 
-/// The text that says no more than a book.
+/// The text that says just what a book says.
 pub(crate) fn book_text(alloc: Global, book: &Book) -> Result<Vec<u8>, AllocError>
     ensures { IfOk result (λ text. text.items ≡ book_text (value book.now)) }
 {

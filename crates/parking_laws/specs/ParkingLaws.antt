@@ -39,8 +39,8 @@ pub data Move : Type 0 where
   -- memory ran out: the last ones go, until the others take up half as much at most
   gives_way : Move
 
--- a lane, and what is to be known of its run: the datagram that is lent, all that were parked, newest first, those that were handed
--- in for good, oldest first, those that are gone otherwise, and a place behind those of all that were parked
+-- a lane, and what is to be known of its run: the datagram that is lent, all that were parked, newest first, those that
+-- were handed in for good, oldest first, those that are gone otherwise, and a place after those of all that were parked
 pub record Run : Type 0 where
   pub lane : LaneValue
   pub lent : Option Lent
@@ -59,7 +59,7 @@ at_first = record {
   arrivals = 0;
 }
 
--- those of a list behind its first so many
+-- those of a list after its first so many
 abbrev pub keys_from : ℕ → List Parked → List Key
 keys_from count waiting = map key_of (drop count waiting)
 
@@ -88,8 +88,8 @@ abbrev pub run_lent : Option Lent → Run → Run
 run_lent None run = run
 run_lent (Some lent) run = record run { lane = record run.lane { is_lent = true }; lent = Some lent }
 
--- the run after the datagram that is lent is settled: if it was taken, it is handed in for good, whatever became of it meanwhile, and
--- those that wait before it are gone otherwise
+-- the run after the datagram that is lent is settled: if it was taken, it is handed in for good, whatever became of it
+-- meanwhile, and those that wait before it are gone otherwise
 abbrev pub run_settled : Bool → Option Lent → Run → Run
 run_settled taken None run = run
 run_settled false (Some lent) run = record run { lane = settled false lent.number lent.arrival run.lane; lent = None }
@@ -118,7 +118,7 @@ step gives_way run = record run {
   dropped = given_up run.lane ++ run.dropped;
 }
 
--- a move may be made: only datagrams that don't come too late are parked, each with a place behind all before it
+-- a move may be made: only datagrams that don't come too late are parked, each with a place after all before it
 abbrev pub MayMove : Move → Run → Type 0
 MayMove (parks limit one) run = (run.arrivals ≤ one.arrival) × (run.lane.floor ≤ one.number)
 MayMove lends run = Unit {0}
@@ -146,7 +146,7 @@ abbrev pub IsBefore : Key → List Key → Type 0
 IsBefore one [] = Unit {0}
 IsBefore one (other ∷ later) = ComesBefore one other × IsBefore one later
 
--- each comes before all behind it
+-- each comes before all that follow it
 abbrev pub IsRising : List Key → Type 0
 IsRising [] = Unit {0}
 IsRising (one ∷ later) = IsBefore one later × IsRising later

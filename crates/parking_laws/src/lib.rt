@@ -3,8 +3,8 @@
 
 ghost use Rattle.parking_laws.specs.ParkingLaws.{ComesOutInOrder, AccountsForEach};
 
-/// Whatever is parked, handed in, dropped and forgotten, and wherever memory runs out: what was handed in for good, followed by what waits, is in the order of
-/// the numbers and, within a number, in the order in which it came.
+/// Whatever is parked, handed in, dropped and forgotten, and wherever memory runs out: what was handed in for good,
+/// followed by what waits, is in the order of the numbers and, within a number, in the order in which it came.
 pub fn order()
     ensures { ComesOutInOrder }
 {}

@@ -18,7 +18,7 @@ abbrev pub first_and_others : {A : Type 0} → Option (A × List ℕ) → (List 
 first_and_others None others = []
 first_and_others (Some first) others = first.0 ∷ others first.1
 
--- a list of at most so many items, as far as they can be read
+-- a list of at most this many items, as far as they can be read
 unfoldable pub items_among : {A : Type 0} → (List ℕ → Option (A × List ℕ)) → ℕ → List ℕ → List A
 items_among item zero octets = []
 items_among item (suc most) octets = first_and_others (item octets) (λ rest. items_among item most rest)

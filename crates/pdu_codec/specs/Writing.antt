@@ -27,7 +27,7 @@ pub record WritesWith {Z : Type 0} (old now : Vec ℕ Z) (whole rest : List ℕ)
 abbrev pub behind_code : ℕ → List ℕ → List ℕ
 behind_code code fields = digits 1 code ++ fields
 
--- the data field that is written for a body, where the header's IDs have so many octets: no spare bit is set, and
+-- the data field that is written for a body, where the header's IDs have this many octets: no spare bit is set, and
 -- there are only the optional fields that the body needs
 abbrev pub field_of : ℕ → ℕ → Body → List ℕ
 field_of width entity_octets (bodies.Eof e) =
@@ -42,7 +42,7 @@ field_of width entity_octets (bodies.Prompt p) = behind_code 9 (spelling.prompt 
 field_of width entity_octets (bodies.KeepAlive k) = behind_code 12 (spelling.keep_alive width k)
 field_of width entity_octets (bodies.FileData d) = spelling.file_data width d
 
--- a body whose data field can be written after a header whose IDs have so many octets
+-- a body whose data field can be written after a header whose IDs have this many octets
 pub record FieldFits (width entity_octets : ℕ) (body : Body) : Type 0 where
   pub entity_octets_fit : spelling.IsIdLength entity_octets
   pub body_fits : spelling.BodyFits width body

@@ -1,4 +1,4 @@
-//! Readers of fields: each gives the value and the octets after it, None where there are too few.
+//! Readers of fields. Each returns the value and the octets after it, or None where there are too few.
 
 ghost use Rattle.std.specs.Prelude.{◌≡◌, ◌<◌, ◌≤◌, ◌+◌, ◌^◌, length, IfSome};
 ghost use Rattle.pdu_values.specs.Numbers.{number_of};

@@ -13,7 +13,7 @@ use pdu_values::Directive;
 pub enum PduKind {
     FileData,
     Directive(Directive),
-    /// A directive whose code is missing, or is none.
+    /// A directive whose code is missing or unknown.
     Unknown,
 }
 
@@ -43,7 +43,7 @@ pub struct PduHead {
     pub kind: PduKind,
 }
 
-/// What the octets at the beginning of a datagram say of its PDU; `None` where they are no fixed header of version 1.
+/// What the first octets of a datagram say of its PDU; `None` where they are not a fixed header of version 1.
 pub fn head_of(octets: &[u8]) -> Option<PduHead>
     ensures { result ≡ head_of octets.now }
 {

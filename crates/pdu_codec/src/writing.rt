@@ -1,4 +1,4 @@
-//! Writers of fields, which append without allocating.
+//! Writers of fields. They append without allocating.
 
 ghost use Rattle.std.specs.Prelude.{◌≡◌, ◌<◌, ◌≤◌, ◌+◌, ◌^◌, [], ◌∷◌, map, length};
 ghost use Rattle.std.specs.List.{flat_map, AllByRecursion};

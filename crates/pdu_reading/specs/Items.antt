@@ -7,7 +7,7 @@ abbrev pub ◌>>=◌ : {A B : Type 0} → Option A → (A → Option B) → Opti
 (Some x) >>= f = f x
 None >>= f = None
 
--- a list of at most so many items, up to the end of the octets
+-- a list of at most this many items, up to the end of the octets
 unfoldable pub items_within : {A : Type 0} → (List ℕ → Option (A × List ℕ)) → ℕ → List ℕ → Option (List A)
 items_within item most [] = Some []
 items_within item zero (octet ∷ octets) = None

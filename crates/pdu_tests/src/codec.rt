@@ -2,8 +2,8 @@ use pdu_codec::{DecodeFault, Pdu, decode, encode, head_of};
 use std::alloc::{AllocError, Global};
 use std::test::*;
 
-// The PDUs that are sent for two received files, one in each class, and for one that is put; a Prompt, a Keep Alive, and
-// Metadata with messages.
+// The PDUs that are sent for two received files, one in each class, and for one that is put; a Prompt, a Keep Alive,
+// and Metadata with messages.
 const SENT: [&[u8]; 19] = [
     b"\x24\x00\x0a\x00\x01\x05\x02\x07\x00\x00\x00\x00\x03\x01\x61\x01\x62",
     b"\x34\x00\x07\x00\x01\x05\x02\x00\x00\x00\x00\x61\x62\x63",
@@ -38,7 +38,7 @@ fn write_again(alloc: Global, octets: &[u8], out: &mut Vec<u8>) -> Result<(), De
     Ok(())
 }
 
-// Whether octets are read as a PDU of which a copy is written as the same octets.
+// Whether octets are read as a PDU whose copy is written as the same octets.
 fn is_read(alloc: Global, octets: &[u8]) -> bool {
     let mut out = Vec::new(alloc);
     write_again(alloc, octets, &mut out).is_ok() && out.as_slice() == octets

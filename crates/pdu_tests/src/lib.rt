@@ -1,4 +1,5 @@
-//! PDUs as octets, as callers see them. `proofs/` has a vector for each kind, length and fault, which the checker computes.
+//! PDUs as octets, as callers see them. `proofs/` has a vector for each kind, length and fault, which the checker
+//! computes.
 #![tactic(auto)]
 
 #[cfg(test)]

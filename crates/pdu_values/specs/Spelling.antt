@@ -226,7 +226,7 @@ plain_subtype (bodies.Prompt p) = 0
 plain_subtype (bodies.KeepAlive k) = 0
 plain_subtype (bodies.FileData f) = 0
 
--- the optional fields that the body needs, where IDs have so many octets in the header
+-- the optional fields that the body needs, where IDs have this many octets in the header
 abbrev pub plain_tlvs : ℕ → Body → List Tlv
 plain_tlvs entity_octets (bodies.Eof e) = location_tlvs entity_octets e.location
 plain_tlvs entity_octets (bodies.Finished f) = location_tlvs entity_octets f.location

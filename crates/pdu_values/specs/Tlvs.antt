@@ -39,7 +39,7 @@ may_locate t = if t.kind == entity_id_kind then nat_lt 0 (length t.value) && nat
 abbrev pub message_tlv : List ℕ → Tlv
 message_tlv message = record { kind = message_kind; value = message }
 
--- the least width, from `width` to so many octets more, that holds a number
+-- the least width, from `width` to this many octets more, that holds a number
 unfoldable pub width_from : ℕ → ℕ → ℕ → ℕ
 width_from zero width n = width
 width_from (suc more) width n = if nat_lt n (256 ^ width) then width else width_from more (width + 1) n

@@ -133,7 +133,7 @@ metadata_text metadata =
     codes "Metadata: " ++ (decimal metadata.size ++ (codes " octets, " ++ (name_text metadata.source_name ++ (codes " to "
     ++ (name_text metadata.destination_name ++ (codes ", " ++ (checksum_words metadata.checksum_type ++ closure_words metadata.closure)))))))
 
--- what a segment request asks for; 0 to 0 stands for the Metadata
+-- what a segment request asks for; 0 to 0 means the Metadata
 abbrev pub request_text : SegmentRequest → List ℕ
 request_text request =
     if nat_lt request.start request.end then codes ", asks for octets " ++ (decimal request.start ++ (codes " to " ++ decimal (request.end - 1)))

@@ -1,4 +1,4 @@
-//! Says in words what a PDU says.
+//! Describes a PDU in words.
 #![tactic(auto)]
 
 mod names;

@@ -92,7 +92,7 @@ fn push_digits(alloc: Global, text: &mut String, name: &[u8]) -> Result<(), Allo
     text.push_str(digits.as_str())
 }
 
-// The name as it stands, if it can be shown so.
+// The name as text, if it is printable ASCII without spaces.
 fn shown_of(name: &[u8]) -> Option<&str>
     ensures { option_copied result ≡ shown_of name.now }
 {

@@ -167,7 +167,7 @@ fn push_nak(text: &mut String, nak: &Nak) -> Result<(), AllocError>
     Ok(())
 }
 
-// Adds what a NAK asks for; 0 to 0 stands for the Metadata.
+// Adds what a segment request of a NAK asks for; 0 to 0 means the Metadata.
 fn push_request(text: &mut String, request: SegmentRequest) -> Result<(), AllocError>
     ensures { OnOk result (string_bytes text.new ≡ string_bytes text.old ++ request_text request) }
 {

@@ -36,9 +36,9 @@ octets_within start end (departure ∷ earlier) =
     (if departure.of_file && (nat_le start departure.at && nat_le departure.at end) then departure.octets else 0)
     + octets_within start end earlier
 
--- whatever else leaves, in any span of milliseconds there leaves of files at most what the limit, in octets a second, allows in it
--- and in the ten milliseconds of slack, and one departure; for departures of less than 4 GiB, and up to a moment that is five
--- centuries off
+-- whatever else leaves, the octets of files that leave in any span of milliseconds are at most what the limit, in
+-- octets a second, allows in it and in the ten milliseconds of slack, and one departure; for departures of less than 4
+-- GiB, and up to a moment that is five centuries off
 abbrev pub KeepsToRate : Type 0
 KeepsToRate = (pace : Pace) (limit most start end : ℕ) (run : List Departure) → pace.limit ≡ Some limit → IsPaced pace run
     → most < 2 ^ 32 → AreAtMost most run → end < 2 ^ 44

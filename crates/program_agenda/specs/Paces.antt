@@ -28,7 +28,7 @@ spent_by (Some limit) octets now pace =
 abbrev pub spent : ℕ → ℕ → Pace → Pace
 spent octets now pace = spent_by pace.limit octets now pace
 
--- octets that leave by no pace take up their time behind what left before, wherever that ended, up to a second from now
+-- octets that leave by no pace take up their time after what left before, wherever that ended, up to a second from now
 abbrev pub charged_by : Option ℕ → ℕ → ℕ → Pace → Pace
 charged_by None octets now pace = pace
 charged_by (Some limit) octets now pace =
@@ -37,7 +37,8 @@ charged_by (Some limit) octets now pace =
 abbrev pub charged : ℕ → ℕ → Pace → Pace
 charged octets now pace = charged_by pace.limit octets now pace
 
--- with another limit from a moment on: what left before holds back others for a second at most, and not at all without one
+-- with another limit from a moment on: what left before holds back others for a second at most, and not at all without
+-- one
 abbrev pub limited : Option ℕ → ℕ → Pace → Pace
 limited None now pace = record { limit = None; over_at = 0 }
 limited (Some limit) now pace = record { limit = Some limit; over_at = min pace.over_at (told (told (now * 1000000) + 1000000000)) }

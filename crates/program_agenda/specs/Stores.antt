@@ -1,7 +1,8 @@
 -- Meaning. Received files that wait to be stored, and which of them is tried next.
 use Rattle.std.specs.Prelude.{ℕ, ◌+◌, Bool, nat_le, min, if◌then◌else◌, List, [], ◌∷◌, ◌++◌, Option, Some, None}
 
--- those that weren't tried yet and those that are tried again, each in their order; when one of the latter is tried next
+-- those that weren't tried yet and those that are tried again, each in their order; when one of the latter is tried
+-- next
 pub record StoreQueueValue (D : Type 0) : Type 0 where
   pub fresh : List D
   pub waiting : List D

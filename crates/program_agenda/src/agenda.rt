@@ -40,7 +40,7 @@ impl Agenda {
         }
     }
 
-    /// Reserves memory, so that as many timers may run or rest at once as given, and none of them finds no memory.
+    /// Reserves memory for so many timers to run or rest at once, so that none of them lacks memory.
     pub fn reserve_timers(&mut self, timers: usize) -> Result<(), AllocError>
         ensures { self.new ≡ self.old }
     {
@@ -64,7 +64,7 @@ impl Agenda {
         self.sendings.next(now)
     }
 
-    /// Arms and disarms timers as an operation of a step at this moment says. A resting timer that it arms anew or
+    /// Arms or disarms a timer, as an operation of a step at this moment says. A resting timer that it arms anew or
     /// disarms is dropped.
     pub fn apply(&mut self, operation: TimerOp, at: u64) -> Result<(), AllocError>
         ensures ok { OnOk result (self.new ≡ record self.old {

@@ -24,7 +24,7 @@ pub enum Expiry {
     Fires,
     /// It rests for the link to this remote entity, which is held.
     Rests(usize),
-    /// It runs again, up to this moment, since silence counts anew from a release.
+    /// It runs again, up to this moment, because silence counts anew from a release.
     RunsUntil(u64),
 }
 
@@ -60,7 +60,7 @@ fn deadline_on(timer: Armed, link: TimedLink) -> u64
     }
 }
 
-// A timer runs again where its deadline is still to come.
+// What becomes of a timer with this deadline: it runs again if the deadline is still to come.
 fn due_by(deadline: u64, now: u64) -> Expiry
     ensures { result ≡ due_by deadline now }
 {

@@ -2,8 +2,8 @@
 
 ghost use Rattle.program_agenda.specs.PaceLaws.{KeepsToRate};
 
-/// If each departure is at a moment at which the pace is free, and the pace counts each, then in any span of time there
-/// leaves at most what the limit allows in that span and ten milliseconds more, and one departure.
+/// If each departure is at a moment at which the pace is free, and the pace counts each, then what leaves in any span
+/// of time is at most what the limit allows in that span and ten milliseconds more, plus one departure.
 pub fn paces()
     ensures { KeepsToRate }
 {}

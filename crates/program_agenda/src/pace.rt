@@ -10,7 +10,7 @@ const NANOSECONDS_A_MILLISECOND: u64 = 1_000_000;
 
 const NANOSECONDS_A_SECOND: u64 = 1_000_000_000;
 
-// For how many nanoseconds octets hold back others at most that left without a pace.
+// For how many nanoseconds at most octets that left without a pace hold back others.
 const DEBT: u64 = NANOSECONDS_A_SECOND;
 
 /// Limits how fast octets leave. Octets that leave take up their time at the limit, and nothing leaves before the time
@@ -31,8 +31,8 @@ impl Pace {
         Pace { limit, over_at: 0 }
     }
 
-    /// The pace with another limit, from this moment on, in milliseconds. What left before holds back others for a second at
-    /// most, and not at all if nothing limits any more.
+    /// The pace with another limit, from this moment on, in milliseconds. What left before holds back others for a
+    /// second at most, and not at all if there is no limit any more.
     pub fn limited(self, limit: Option<u64>, now: u64) -> Pace
         ensures { result ≡ limited limit now self }
     {
@@ -83,8 +83,8 @@ impl Pace {
         }
     }
 
-    /// The pace after this many octets, which didn't wait for it, left up to this moment, in milliseconds. They hold back
-    /// others for a second at most.
+    /// The pace after this many octets, which didn't wait for it, left up to this moment, in milliseconds. They hold
+    /// back others for a second at most.
     pub fn charge(self, octets: u64, now: u64) -> Pace
         ensures { result ≡ charged octets now self }
     {

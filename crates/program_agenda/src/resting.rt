@@ -15,7 +15,8 @@ pub struct Resting {
     pub timer: Armed,
 }
 
-/// The timers that rest until their link is released. Contracts see the list of them, in the order in which they expired.
+/// The timers that rest until their link is released. Contracts see the list of them, in the order in which they
+/// expired.
 #[derive(Drop)]
 pub struct RestingTimers {
     timers: Vec<Resting>,

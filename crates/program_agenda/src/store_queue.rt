@@ -5,7 +5,7 @@ use std::alloc::{AllocError, Global};
 use std::collections::VecDeque;
 use std::marker::Model;
 
-/// How many milliseconds after a file couldn't be stored one is tried again.
+/// After how many milliseconds files are tried again once one couldn't be stored.
 const PACE_MS: u64 = 1_000;
 
 /// Received files to be stored: those that weren't tried yet, in their order, and those that are tried again, which
@@ -26,7 +26,8 @@ impl<D: Drop> Model for StoreQueue<D> {
 }
 
 impl<D: Drop> StoreQueue<D> {
-    /// No file is to be stored. Memory for so many is reserved.
+    /// No file is to be stored. Memory is reserved for so many that weren't tried yet, and for so many that are tried
+    /// again.
     pub fn new(alloc: Global, room: usize) -> Result<StoreQueue<D>, AllocError>
         ensures { IfOk result (λ queue. queue ≡ record { fresh = []; waiting = []; again = 0 }) }
     {
@@ -44,7 +45,7 @@ impl<D: Drop> StoreQueue<D> {
         &self.waiting
     }
 
-    /// Takes out the file stored next at a moment, if there is one.
+    /// Takes out the file to be stored next at a moment, if there is one.
     pub fn next(&mut self, now: u64) -> Option<D>
         ensures file { result ≡ next_store now self.old }
         ensures left { self.new ≡ without_store now self.old }
@@ -71,8 +72,8 @@ impl<D: Drop> StoreQueue<D> {
         }
     }
 
-    /// Notes that a file couldn't be stored at a moment: it is tried again after all others, and none of those within a second.
-    /// It is returned if memory runs out.
+    /// Notes that a file couldn't be stored at a moment: it is tried again after all others, and none of those within a
+    /// second. It is returned if memory runs out.
     pub fn put_off(&mut self, file: D, now: u64) -> Result<(), D>
         ensures ok { OnOk result (self.new ≡ put_off file now self.old) }
         ensures given_back { IfErr result (λ back. back ≡ file) }

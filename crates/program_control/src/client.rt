@@ -13,8 +13,8 @@ use std::thread;
 use std::thread::Threads;
 use std::time::{Clock, Duration};
 
-/// Serves the client of a seat until it leaves: this thread reads, and a second one writes. A client at the spare seat gives one
-/// command.
+/// Serves the client of a seat until it leaves: this thread reads, and a second one writes. A client at the spare seat
+/// may give one command.
 pub(crate) fn serve_client<R: Threads + Wait + Clock + Sync, F: FileReader>(
     attending: &Attending<'_, R, F>,
     stream: UnixStream,

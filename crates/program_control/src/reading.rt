@@ -9,7 +9,7 @@ use std::io::{BufRead, Read};
 use std::sync::Wait;
 use std::time::Clock;
 
-// For how many octets of a command memory is reserved, so that a short one needs none.
+// How many octets of memory are reserved for a command, so that a short one needs no more.
 const RESERVED_OCTETS: usize = 1_024;
 
 /// How many octets a command may have, its line feed included.
@@ -17,8 +17,8 @@ pub const COMMAND_OCTETS: u64 = 131_072;
 
 /// Leaves a client's commands at the desk, one at a time: the next is read once the one before has its reply. The file
 /// of a Put is read here, so only this client waits for it. Returns when the lines end, reading fails, a line is too
-/// long, memory runs out, or the client's way or the desk is closed. A last line without a line feed is not a command. Of a
-/// client that only watches, other lines than those that look at the station are refused.
+/// long, memory runs out, or the client's way or the desk is closed. A last line without a line feed is not a command.
+/// A line of a client that only watches is refused unless it only looks at the station.
 pub(crate) fn read_commands<R: Wait + Clock, F: FileReader, B: BufRead + Drop>(
     attending: &Attending<'_, R, F>,
     reader: &mut B,

@@ -26,7 +26,7 @@ pub fn push_control_reason<R: Files + Net>(
     }
 }
 
-// Adds what the system minds: the path's length, its folder, or something else.
+// Adds why the system makes no socket: the path's length, its folder, or something else.
 fn push_system<R: Files>(rt: &R, text: &mut String, path: &str) -> Result<(), AllocError> {
     if path.len() > PATH_OCTETS {
         return writeln!(

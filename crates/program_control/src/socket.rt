@@ -64,8 +64,9 @@ impl ControlSocket {
         ControlSocket::open_for(rt, alloc, path, None)
     }
 
-    /// Makes the socket's file, which gets its permissions before anyone can connect: its owner's alone, unless others are given. The file of a server that
-    /// is gone is replaced. Of several servers that start at the same time, one gets the path.
+    /// Makes the socket's file, which gets its permissions before anyone can connect: its owner's alone, unless others
+    /// are given. The file of a server that is gone is replaced. Of several servers that start at the same time, one
+    /// gets the path.
     pub fn open_for<R: Files + Net>(
         rt: &R,
         alloc: Global,
@@ -81,7 +82,8 @@ impl ControlSocket {
         Ok(socket)
     }
 
-    /// The same socket, whose clients only watch: they get the seats of those, and other lines of them are refused.
+    /// The same socket, for clients that only watch: they get the seats for such clients, and their lines that do more
+    /// than look are refused.
     pub fn for_watchers(self) -> ControlSocket {
         let mut socket = self;
         socket.is_watched = true;
@@ -121,8 +123,8 @@ impl ControlSocket {
         });
     }
 
-    /// Lets nobody in any more, and makes all clients leave: replies that wait are still sent, as far as they are taken
-    /// at once.
+    /// Lets nobody in any more, and makes all clients leave: replies that wait are still sent, as far as the clients
+    /// take them within `program_seats::LAST_MS`.
     pub fn close<R: Files + Wait + Clock>(&self, rt: &R, path: &str, seats: &Seats) {
         seats.close(rt);
         self.shut(rt, path);
@@ -209,7 +211,7 @@ fn is_stale<R: Files + Net>(rt: &R, path: &str) -> Result<bool, ControlFault> {
     }
 }
 
-// Opens a socket at a temporary path next to the wanted one, where clients can connect; answers the path, too.
+// Opens a socket at a temporary path next to the wanted one, where clients can connect, and returns the path, too.
 fn open_beside<R: Files + Net>(
     rt: &R,
     alloc: Global,

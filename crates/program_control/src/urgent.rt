@@ -13,14 +13,15 @@ use std::os::unix::net::UnixStream;
 use std::sync::Wait;
 use std::time::{Clock, Duration};
 
-/// For how many milliseconds such a client has the spare seat without a command, or without reading.
+/// For how many milliseconds such a client keeps the spare seat without a command, or without reading.
 pub(crate) const PATIENCE_MS: u64 = 5_000;
 
 // How many octets its command may have, with the line feed.
 const COMMAND_OCTETS: usize = 128;
 
-/// Leaves the command of a client at the spare seat at the desk: its first line, if it comes within five seconds and looks at the
-/// station, ends it, holds or releases a link, or abandons a transaction. Otherwise the client is told that no seat is free.
+/// Leaves the command of a client at the spare seat at the desk: its first line, if it comes within five seconds and
+/// asks for the status, ends the server, holds or releases a link, or abandons a transaction. Otherwise the client is
+/// told that no seat is free.
 pub(crate) fn read_urgent<R: Wait + Clock, F>(
     attending: &Attending<'_, R, F>,
     stream: &UnixStream,
@@ -52,7 +53,7 @@ pub(crate) fn refuse(stream: &UnixStream) {
     let _as_it_may = write_whole(&mut writer, b"busy\n");
 }
 
-// Whether a command is taken while all seats are.
+// Whether a command is accepted while all seats are taken.
 fn is_urgent(command: &Command) -> bool {
     matches!(
         command,

@@ -6,11 +6,11 @@ use server_lines::{Command, only_looks};
 use std::alloc::AllocError;
 use std::sync::Wait;
 
-// What any line gets that does more than look at the station, with the line that ends an answer.
+// The reply to any line that does more than look at the station, with the line that ends a reply.
 const NOT_HERE: &[u8] = b"refused NotHere\n.\n";
 
-/// Leaves a watcher's line at the desk, if it only looks at the station, and waits for its reply. Any other line is refused here.
-/// Answers whether more may be read.
+/// Leaves a watcher's line at the desk, if it only looks at the station, and waits for its reply. Any other line is
+/// refused here. Returns whether more may be read.
 pub(crate) fn look<R: Wait>(
     rt: &R,
     command: Result<Option<Command>, AllocError>,

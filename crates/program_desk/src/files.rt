@@ -1,4 +1,4 @@
-//! Files to be sent are read by threads other than the main one, which never waits for a file.
+//! Threads other than the main one read files to be sent, so that the main thread never waits for a file.
 use crate::clock::wall_moment;
 use crate::desk::Desk;
 use cfdp_types::Octets;
@@ -47,7 +47,7 @@ impl Desk {
         size
     }
 
-    // Lists a file as being read; returns the number of the reading.
+    // Lists a file as being read, and returns the number of the reading.
     fn begin_reading<R: Wait + Clock>(&self, rt: &R, path: &Octets) -> Result<u64, AllocError> {
         let (path, since) = (path.copy()?, wall_moment(rt));
         let mut trays = self.trays.lock(rt);
@@ -61,7 +61,7 @@ impl Desk {
         Ok(number)
     }
 
-    // Ends the listing of a file as being read.
+    // No longer lists a file as being read.
     fn end_reading<R: Wait>(&self, rt: &R, number: u64) {
         let mut trays = self.trays.lock(rt);
         if let Some(place) = place_of(trays.readings.as_slice(), number)
@@ -85,7 +85,8 @@ impl Desk {
         Ok(copies)
     }
 
-    /// Asks the thread of `read_files` for a file, which `take_file` then gives. Only one file may be wanted at a time.
+    /// Asks the thread of `read_files` for a file, which `take_file` then returns. Only one file may be wanted at a
+    /// time.
     pub fn want_file<R: Wait>(&self, rt: &R, path: Octets) {
         self.trays.lock(rt).wanted = Some(path);
         self.wants.notify_one();

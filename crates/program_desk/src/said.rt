@@ -25,13 +25,13 @@ pub enum Said {
     NoMemory,
 }
 
-// Whether the file of a send is looked at before it waits: where the line has any of the words that ask for more.
+// Whether the file of a send is looked at before it waits: if the line has the word `urgent` or `as`.
 fn is_looked_at(send: &SendCommand) -> bool {
     send.is_urgent || send.source_name.is_some()
 }
 
-/// Parses a line by a configuration, and reads the file of a Put, or looks at that of a send which asks for more. The desk shows
-/// meanwhile that this file is being read.
+/// Parses a line by a configuration, and reads the file of a Put, or looks at the file of a send with the word `urgent`
+/// or `as`. Meanwhile the desk lists this file as being read.
 pub fn said_by<R: Wait + Clock, F: FileReader>(
     rt: &R,
     alloc: Global,

@@ -6,8 +6,8 @@ use Rattle.std.specs.List.{filter, range_with_len}
 abbrev pub divides : ℕ → ℕ → Bool
 divides one other = not (one == 0) && (other % one == 0)
 
--- there are lanes at both ends, and the number of the sending ones doesn't divide that of the receiving ones: so some receiving
--- lane has the numbers of two sending ones
+-- there are lanes at both ends, and the number of the sending ones doesn't divide that of the receiving ones: so some
+-- receiving lane has the numbers of two sending ones
 abbrev pub is_shared : ℕ → ℕ → Bool
 is_shared senders lanes = not (lanes == 0) && (not (senders == 0) && not (divides senders lanes))
 

@@ -9,8 +9,8 @@ use Rattle.program_lineup.specs.declared.choice.Standing.TheVariants.{Free, Awai
 use Rattle.program_lineup.specs.declared.sending_lane.Running.{Running}
 use Rattle.program_lineup.specs.declared.sending_lane.SendingLane.{SendingLane}
 
--- an entity; and for each remainder by its number of lanes the greatest number used toward it. An entity that takes any number
--- has no remainders.
+-- an entity; and for each remainder by its number of lanes the greatest number used toward it. An entity that takes any
+-- number has no remainders.
 pub record Numbers : Type 0 where
   pub peer : EntityId
   pub greatest : List (Option ℕ)

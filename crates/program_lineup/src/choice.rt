@@ -6,9 +6,9 @@ ghost use Rattle.program_lineup.specs.Lineups.{chosen, is_so, least, most};
 pub enum Standing {
     /// A transaction may begin with it.
     Free,
-    /// Once the transaction ended that is open with the same remainder.
+    /// A transaction may begin with it once the one that is open with the same remainder has ended.
     Awaits,
-    /// Not: this number, or a greater one with the same remainder, was used.
+    /// No transaction may begin with it: this number, or a greater one with the same remainder, was used.
     Lags,
 }
 
@@ -57,8 +57,8 @@ pub(crate) fn most(best: Option<u64>, number: u64) -> Option<u64>
     }
 }
 
-/// The choice by the lowest number that may go, whether an idle lane waits for a transaction to end, and the highest number of
-/// a lane that lags.
+/// The choice by the lowest number that may go, whether an idle lane waits for a transaction to end, and the highest
+/// number of a lane that lags.
 pub(crate) fn chosen(lowest: Option<u64>, awaits: bool, highest: Option<u64>) -> Choice
     ensures { result ≡ chosen lowest awaits highest }
 {

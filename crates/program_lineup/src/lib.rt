@@ -1,4 +1,5 @@
-//! In which order the numbers of several sending lanes are used toward an entity whose receiving lanes take rising numbers.
+//! In which order the numbers of several sending lanes are used toward an entity whose receiving lanes take rising
+//! numbers.
 #![tactic(auto)]
 
 mod choice;

@@ -8,8 +8,8 @@ use cfdp_types::EntityId;
 use std::alloc::{AllocError, Global};
 use std::marker::Model;
 
-/// The numbers that were used toward an entity, by their remainders, and so which number may be used next. Contracts see the
-/// entity and, for each remainder, the greatest number.
+/// The numbers that were used toward an entity, by their remainders, and so which number may be used next. Contracts
+/// see the entity and, for each remainder, the greatest number.
 #[derive(Drop)]
 pub struct Lineup {
     peer: EntityId,
@@ -25,8 +25,8 @@ impl Model for Lineup {
 }
 
 impl Lineup {
-    /// No number was used toward an entity, which has so many receiving lanes for the numbers of this one, or takes any numbers
-    /// if it has none.
+    /// No number was used toward an entity. It has so many receiving lanes for the numbers of this one; with 0 it takes
+    /// any numbers.
     pub fn new(alloc: Global, peer: EntityId, lanes: usize) -> Result<Lineup, AllocError>
         ensures { IfOk result (λ l. l ≡ record { peer = peer; greatest = unused lanes }) }
     {
@@ -109,7 +109,7 @@ impl Lineup {
             .any(|lane| self.is_open_with(number, lane.running))
     }
 
-    // Whether it is this one.
+    // Whether a lane runs such a transaction.
     fn is_open_with(&self, number: u64, running: Option<Running>) -> bool
         ensures { result ≡ is_open_with self.now number running }
     {
@@ -196,7 +196,7 @@ fn has_remainder(one: u64, other: u64, lanes: usize) -> bool
     }
 }
 
-// Notes that a number was used at the place of its remainder.
+// Notes that a number was used, at the place of its remainder.
 fn note_at(greatest: &mut Vec<Option<u64>>, place: usize, number: u64)
     requires { place < length greatest.old.items }
     ensures { greatest.new.items ≡ used_at place number (slice_get greatest.old.items place) greatest.old.items }

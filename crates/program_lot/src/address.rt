@@ -11,7 +11,7 @@ pub struct LotAddress {
     pub number: u64,
 }
 
-/// Where a datagram goes; `None` if it goes nowhere, or if memory runs out.
+/// Where a datagram goes; `None` if it isn't a PDU for any lane, or if memory runs out.
 pub fn address_of(alloc: Global, config: &Config, octets: &[u8]) -> Option<LotAddress> {
     let pdu = decode(alloc, octets).ok()?;
     let place = place_of_pdu(config, &pdu).ok()?;

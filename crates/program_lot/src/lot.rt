@@ -28,8 +28,8 @@ struct Lanes {
     first: usize,
 }
 
-/// Datagrams that wait until their lanes can take them. Each lane's are handed in one at a time, so they reach the lane in
-/// order. All threads share it; a thread waits for its lock alone, and holds no other meanwhile.
+/// Datagrams that wait until their lanes can take them. Each lane's are handed in one at a time, so they reach the lane
+/// in order. All threads share it. A thread that waits for its lock holds no other meanwhile.
 #[derive(Drop)]
 pub struct Lot {
     lanes: Mutex<Lanes>,
@@ -43,8 +43,8 @@ pub struct Lot {
 }
 
 impl Lot {
-    /// An empty lot for the lanes of a configuration, with room for so many octets. `takes` says whether the station itself
-    /// takes from its users' queues.
+    /// An empty lot for the lanes of a configuration, with room for so many octets. `takes` says whether the station
+    /// itself takes from its users' queues.
     pub fn new(alloc: Global, config: &Config, room: u64, takes: bool) -> Result<Lot, AllocError> {
         let mut first_of = Vec::with_capacity(alloc, config.users())?;
         let mut count = 0usize;
@@ -99,8 +99,9 @@ impl Lot {
         }
     }
 
-    /// Parks a datagram that came at `since`, in milliseconds since 1970; `now` is the moment by the runtime's clock. If
-    /// there is no room or memory, it or others are dropped: without memory first the later half of what each lane has.
+    /// Parks a datagram that came at `since`, in milliseconds since 1970; `now` is the moment by the runtime's clock.
+    /// If there is no room or memory, it or others are dropped: without memory, first the later half of what waits for
+    /// each lane.
     pub fn park<R: Wait>(
         &self,
         rt: &R,
@@ -121,8 +122,8 @@ impl Lot {
         }
     }
 
-    /// Takes a datagram to be handed in, of a lane whose turn it is at a moment; at 0 only of lanes that were heard of since
-    /// their last try. None if there is none, or no memory.
+    /// Takes a datagram to be handed in, from a lane whose turn it is at a moment; at 0 only from a lane that was heard
+    /// of since its last try, or whose last datagram was taken. `None` if there is none, or no memory.
     pub fn lend<R: Wait>(&self, rt: &R, now: u64) -> Option<Handed> {
         let mut lanes = self.lanes.lock(rt);
         let handed = lend_from(&mut lanes, now);
@@ -137,7 +138,8 @@ impl Lot {
         self.note(&lanes);
     }
 
-    /// Memory ran out somewhere, so the later half of what waits for each lane is dropped; returns how many datagrams that was.
+    /// Memory ran out somewhere: drops the later half of what waits for each lane, and returns how many datagrams that
+    /// was.
     pub fn give_way<R: Wait>(&self, rt: &R) -> usize {
         if !self.is_occupied() {
             return 0;
@@ -167,7 +169,7 @@ impl Lot {
         self.note(&lanes);
     }
 
-    /// Drops what waits of a transaction; returns how many datagrams that was.
+    /// Drops what waits of a transaction, and returns how many datagrams that was.
     pub fn forget<R: Wait>(&self, rt: &R, address: LotAddress) -> usize {
         let index = self.index_of(address.place);
         let mut lanes = self.lanes.lock(rt);
@@ -223,7 +225,7 @@ impl Lot {
             .unwrap_or(count)
     }
 
-    // Notes for those who take no lock what waits.
+    // Notes what waits, for those who take no lock.
     fn note(&self, lanes: &Lanes) {
         self.is_occupied
             .store(lanes.parking.used() > 0, Ordering::SeqCst);
@@ -240,7 +242,7 @@ fn count_in(lanes: &Lanes, index: usize) -> usize {
     }
 }
 
-// Parks a datagram; counts what is dropped for it, and returns how many that were.
+// Parks a datagram. Counts what is dropped for it, and returns how many datagrams that was.
 fn park_in(
     lanes: &mut Lanes,
     index: usize,
@@ -264,7 +266,7 @@ fn park_in(
     given_up.saturating_add(note_dropped(lanes, index, left.saturating_add(1)))
 }
 
-// Counts what was dropped of a lane that had so many datagrams, and returns how many that were.
+// Counts what was dropped of a lane that had so many datagrams, and returns how many datagrams that was.
 fn note_dropped(lanes: &mut Lanes, index: usize, before: usize) -> usize {
     let dropped = before.saturating_sub(count_in(lanes, index));
     if let Some(turn) = lanes.turns.get_mut(index) {
@@ -273,7 +275,7 @@ fn note_dropped(lanes: &mut Lanes, index: usize, before: usize) -> usize {
     dropped
 }
 
-// Drops the later half of what waits for each lane; counts it, and returns how many datagrams that were.
+// Drops the later half of what waits for each lane. Counts it, and returns how many datagrams that was.
 fn give_way_in(lanes: &mut Lanes) -> usize {
     let mut dropped = 0usize;
     for index in 0..lanes.turns.len() {
@@ -310,7 +312,7 @@ fn is_due(lanes: &Lanes, index: usize, now: u64) -> bool {
     }
 }
 
-// Takes a datagram of the next lane in turn. Without memory for that, what waits gives way.
+// Takes a datagram of the next lane in turn. Without memory for that, drops the later half of what waits for each lane.
 fn lend_from(lanes: &mut Lanes, now: u64) -> Option<Handed> {
     let count = lanes.turns.len();
     for step in 0..count {
@@ -334,7 +336,7 @@ fn lend_from(lanes: &mut Lanes, now: u64) -> Option<Handed> {
     None
 }
 
-// Settles a datagram that was handed in; counts those that came too late, since they are before it.
+// Settles a datagram that was handed in. Counts those before it as dropped, because they came too late.
 fn settle_in(lanes: &mut Lanes, handed: &Handed, is_taken: bool, now: u64) {
     let mut before = count_in(lanes, handed.index);
     if is_taken && waits_in(lanes, handed) {

@@ -19,7 +19,7 @@ pub fn may_wait(takes: bool, refusal: &EntityRefusal) -> bool
     }
 }
 
-/// Whether a datagram was refused since memory ran out.
+/// Whether a datagram was refused because memory ran out.
 pub fn lacks_memory(refusal: &EntityRefusal) -> bool
     ensures { result ≡ lacks_memory refusal.now }
 {

@@ -5,7 +5,7 @@ use entity_routing::Place;
 pub struct ParkedLane {
     pub place: Place,
     pub datagrams: u64,
-    /// How much of the room they take up.
+    /// How many octets of the room they take up.
     pub octets: u64,
     pub transactions: u64,
     /// How many datagrams had no room, or no memory.

@@ -8,7 +8,7 @@ use Rattle.number_file.specs.declared.rounds.Rounds.{Rounds}
 use Rattle.program_numbers.specs.declared.held.Puts.{Puts}
 use Rattle.program_numbers.specs.declared.held.Puts.TheVariants.{One, Many}
 
--- the file's name, which stands behind the last slash
+-- the file's name, which follows the last slash
 abbrev pub name_of : List ℕ → List ℕ
 name_of path = after_last is_slash path
 

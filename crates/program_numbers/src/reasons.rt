@@ -1,4 +1,4 @@
-//! Why no numbers can be had from a file, in words.
+//! Why a file provides no numbers, in words.
 use program_control::{ControlFault, ControlSocket};
 use program_start::{folder_of, push_file_reason, push_folder_reason, push_path_reason};
 use std::alloc::{AllocError, Global};
@@ -11,7 +11,8 @@ use std::rt::Files;
 // The most octets that a file of numbers has: a number and a line feed.
 const NUMBER_OCTETS: u64 = 64;
 
-/// Adds a line that says why the file at a path provides no numbers. To find that out, the file is read again, but not changed.
+/// Adds a line that says why the file at a path provides no numbers. To find that out, the file is read again, but not
+/// changed.
 pub fn push_numbers_reason<R: Files + Net>(
     rt: &R,
     alloc: Global,
@@ -74,7 +75,7 @@ fn push_unnumbered<R: Files>(
     }
 }
 
-// Adds what is left where the file is as it should be.
+// Adds the reason that remains if the file is as it should be: it can't be written, or no number is left.
 fn push_unwritten(text: &mut String, path: &str) -> Result<(), AllocError> {
     writeln!(
         text,

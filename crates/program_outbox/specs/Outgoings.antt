@@ -6,8 +6,9 @@ use Rattle.program_outbox.specs.declared.outbox.Stop.{Stop}
 use Rattle.program_outbox.specs.declared.outbox.Waiting.{Waiting}
 use Rattle.program_outbox.specs.Outboxes.{OutboxValue, after_going, at_place, going, has_number, is_idle, is_stopped, number_place, queued, queued_as, withdrawn, without_place}
 
--- files whose turn has not come; the file that is being read, unless it was withdrawn meanwhile; whether one is being read;
--- files that came back, in the order in which they did; the moments before which none is tried, and none that came back
+-- files whose turn has not come; the file that is being read, unless it was withdrawn meanwhile; whether one is being
+-- read; files that came back, in the order in which they did; the moments before which none is tried, and none that
+-- came back
 pub record OutgoingValue : Type 0 where
   pub outbox : OutboxValue
   pub reading : Option Waiting

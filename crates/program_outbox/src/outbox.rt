@@ -37,7 +37,8 @@ pub struct Waiting {
     pub file: OutboxFile,
 }
 
-/// Nothing of this user goes to this entity now: its link is held, or no idle sending lane has a number that may go there.
+/// Nothing of this user goes to this entity now: its link is held, or no idle sending lane has a number that may go
+/// there.
 #[derive(Clone, Copy, Debug, PartialEq, Eq)]
 pub struct Stop {
     /// The user's number in the configuration.
@@ -88,7 +89,7 @@ impl Outbox {
         })
     }
 
-    /// Puts a user's file after all others; returns its number.
+    /// Puts a user's file after all others, and returns its number.
     pub fn push(&mut self, user: usize, file: OutboxFile) -> Result<u64, OutboxFault>
         ensures ok { IfOk result (λ number. (number ≡ self.old.next) × (self.new ≡ queued user file self.old)) }
         ensures err { OnErr result (self.new ≡ self.old) }
@@ -100,8 +101,8 @@ impl Outbox {
         Ok(number)
     }
 
-    /// Puts a user's file after all others, with this number, as one that waited when an earlier run stopped. The next file
-    /// gets the number after it.
+    /// Puts a user's file after all others, with this number, as one that waited when an earlier run stopped. The next
+    /// file gets the number after it.
     pub fn push_as(&mut self, number: u64, user: usize, file: OutboxFile) -> Result<(), OutboxFault>
         ensures ok { OnOk result (self.new ≡ queued_as number user file self.old) }
         ensures err { OnErr result (self.new ≡ self.old) }
@@ -120,16 +121,16 @@ impl Outbox {
         }
     }
 
-    /// Has the next file get this number, which an earlier run left.
+    /// Gives the next file this number, which an earlier run left.
     pub fn go_on_from(&mut self, next: u64)
         ensures { self.new ≡ record self.old { next = next } }
     {
         self.next = next;
     }
 
-    /// Takes out the next file to be sent. `idle` says for each user whether a lane is idle, and `stops` which user's files
-    /// don't go to which entity. It is the first file that may go of the user whose turn it is, the first urgent one if there
-    /// is one; that user's next turn is after all others.
+    /// Takes out the next file to be sent. `idle` says for each user whether a lane is idle, and `stops` which user's
+    /// files don't go to which entity. It is the first file that may go of the user whose turn it is, or the first
+    /// urgent one of those, if there is one. That user's next turn is after all others.
     pub fn take(&mut self, idle: &[bool], stops: &[Stop]) -> Option<Waiting>
         ensures file { result ≡ going idle.now stops.now self.old }
         ensures rest { self.new ≡ after_going idle.now stops.now self.old }
@@ -207,7 +208,7 @@ fn turn_place(turns: &[usize], waiting: &[Waiting], idle: &[bool], stops: &[Stop
         .position(|user| can_go(idle, stops, waiting, *user))
 }
 
-// The place of a user's first file that may go, the first urgent one if there is one.
+// The place of a user's first file that may go, or of the first urgent one of those, if there is one.
 fn place_of(waiting: &[Waiting], stops: &[Stop], user: usize) -> Option<usize>
     ensures place { result ≡ free_place stops.now user waiting.now }
     ensures range { IfSome result (λ place. place < length waiting.now) }

@@ -81,8 +81,8 @@ impl Outgoing {
         Ok(number)
     }
 
-    /// Puts a user's file after all others, with this number, as one that waited when an earlier run stopped. The next file
-    /// gets the number after it.
+    /// Puts a user's file after all others, with this number, as one that waited when an earlier run stopped. The next
+    /// file gets the number after it.
     pub fn push_as(
         &mut self,
         number: u64,
@@ -103,7 +103,7 @@ impl Outgoing {
         Ok(())
     }
 
-    /// Has the next file get this number, which an earlier run left.
+    /// Gives the next file this number, which an earlier run left.
     pub fn go_on_from(&mut self, next: u64)
         ensures { self.new ≡ record self.old { outbox = record self.old.outbox { next = next } } }
     {
@@ -139,7 +139,7 @@ impl Outgoing {
         self.reading.as_ref()
     }
 
-    /// The files that came back since they couldn't be put yet, in that order.
+    /// The files that came back because they couldn't be put yet, in the order in which they came back.
     pub fn returned(&self) -> &[Waiting]
         ensures { result.now ≡ self.now.returned }
     {
@@ -153,7 +153,7 @@ impl Outgoing {
         self.outbox.waiting()
     }
 
-    /// Takes out the file with a number. If it is being read, that goes on, and what is read will be put nowhere.
+    /// Takes out the file with a number. If it is being read, the reading goes on, and what is read will not be put.
     pub fn withdraw(&mut self, number: u64) -> Option<Waiting>
         ensures file { result ≡ named number self.old }
         ensures rest { self.new ≡ without_named number self.old }
@@ -209,9 +209,10 @@ impl Outgoing {
         }
     }
 
-    /// Has the file read whose turn it is, unless one is being read: one that waits, or else the first one that came back, from
-    /// the moment on at which those are tried; each of a user with an idle lane whose files to its entity aren't stopped. Returns
-    /// whether there is one. If there is none, files are tried again ten milliseconds later.
+    /// Begins to read the file whose turn it is, unless one is being read. It is one that waits or else, from the
+    /// moment on at which those are tried, the first one that came back. Its user has an idle lane, and the user's
+    /// files to its entity aren't stopped. Returns whether it began. If there is no such file, files are tried again
+    /// ten milliseconds later.
     pub fn begin_reading(&mut self, now: u64, idle: &[bool], stops: &[Stop]) -> bool
         ensures began { result ≡ is_some (next_file now idle.now stops.now self.old) }
         ensures after { self.new ≡ begun now idle.now stops.now self.old }
@@ -235,7 +236,7 @@ impl Outgoing {
         self.is_reading
     }
 
-    /// The file that was read leaves. None if it was withdrawn meanwhile.
+    /// Takes out the file that was read. `None` if it was withdrawn meanwhile.
     pub fn finish(&mut self) -> Option<Waiting>
         ensures file { result ≡ self.old.reading }
         ensures rest { self.new ≡ record self.old { reading = None; is_reading = false } }
@@ -244,8 +245,8 @@ impl Outgoing {
         self.reading.take()
     }
 
-    /// The file that was read couldn't be put yet. It comes back, after all others that did, and none of them is tried for a
-    /// second.
+    /// The file that was read couldn't be put yet. It comes back, after all others that did, and none of them is tried
+    /// for a second.
     pub fn give_back(&mut self, now: u64)
         ensures after { self.new ≡ given_back now self.old }
         ensures kept { file_count self.new ≡ file_count self.old }
@@ -281,7 +282,7 @@ fn take_turn(
     Some(returned.remove(place))
 }
 
-// Where the first file stands, of those that came back, that can leave.
+// The place of the first file that came back and can leave.
 fn returned_place(returned: &[Waiting], idle: &[bool], stops: &[Stop]) -> Option<usize>
     ensures place { result ≡ position (can_leave idle.now stops.now) returned.now }
     ensures range { IfSome result (λ place. place < length returned.now) }

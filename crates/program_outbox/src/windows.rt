@@ -40,7 +40,7 @@ impl Windows {
         }
     }
 
-    /// The link to a remote entity is open from now on for so many seconds, whatever was said of it before.
+    /// Notes that the link to a remote entity is open from now on for so many seconds, whatever was said of it before.
     pub fn open_for(&mut self, remote: EntityId, now: u64, seconds: u64) -> Result<(), AllocError>
         ensures ok { OnOk result (self.new ≡ opened remote (end_of now seconds) self.old) }
         ensures err { OnErr result (self.new ≡ self.old) }
@@ -54,14 +54,14 @@ impl Windows {
         Ok(())
     }
 
-    /// The link to a remote entity is open for no time any more: it is held, or open until it is.
+    /// Forgets the window of a remote entity: its link is held, or open until it is held.
     pub fn forget(&mut self, remote: EntityId)
         ensures { self.new ≡ filter (is_of_other remote.0) self.old }
     {
         keep_others(&mut self.windows, remote.0);
     }
 
-    /// Until when the link to a remote entity is open, if that is for a time.
+    /// Until when the link to a remote entity is open, if it is open only for a time.
     pub fn until(&self, remote: EntityId) -> Option<u64>
         ensures { result ≡ until_at (position (is_of remote.0) self.now) self.now }
     {
@@ -81,7 +81,7 @@ impl Windows {
             .fold(until, |moment, window| moment.min(window.until))
     }
 
-    /// Takes out a window that is over at a moment; returns whose link is to be held.
+    /// Takes out a window that is over at a moment, and returns the remote entity whose link is to be held.
     pub fn take_over(&mut self, now: u64) -> Option<EntityId>
         ensures remote { result ≡ remote_at (position (has_end now) self.old) self.old }
         ensures rest { self.new ≡ without_place (position (has_end now) self.old) self.old }

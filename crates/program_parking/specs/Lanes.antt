@@ -5,8 +5,8 @@ use Rattle.program_parking.specs.declared.parked.Parked.{Parked}
 use Rattle.program_parking.specs.declared.counted.Counted.{Counted}
 use Rattle.program_parking.specs.declared.parked.Lent.{Lent}
 
--- the datagrams that wait, in the order in which they are handed in; whether the first one is being handed in; the greatest
--- number of which a datagram was handed in for good
+-- the datagrams that wait, in the order in which they are handed in; whether the first one is being handed in; the
+-- greatest number of which a datagram was handed in for good
 pub record LaneValue : Type 0 where
   pub waiting : List Parked
   pub is_lent : Bool
@@ -40,11 +40,11 @@ fitting limit (one ∷ later) = if nat_le (cost one) limit then one ∷ fitting 
 abbrev pub within : ℕ → List Parked → List Parked
 within limit waiting = fitting limit (take 16384 waiting)
 
--- one more datagram waits; where there is no room, the last of the highest number go
+-- one more datagram waits; where there is no room, the last ones, of the highest numbers, go
 abbrev pub parked_in : ℕ → Parked → LaneValue → LaneValue
 parked_in limit one lane = record lane { waiting = within limit (inserted one lane.waiting) }
 
--- the last datagrams of the highest number go, until the others take up half as much at most
+-- the last datagrams, those of the highest numbers, go until the others take up half as much at most
 abbrev pub halved : LaneValue → LaneValue
 halved lane = record lane { waiting = fitting (costs lane.waiting / 2) lane.waiting }
 

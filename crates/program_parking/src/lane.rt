@@ -51,14 +51,14 @@ impl LaneParking {
         self.waiting.len()
     }
 
-    /// How much of the room they take up.
+    /// How many octets of the room they take up.
     pub fn octets(&self) -> u64
         ensures { result ≡ costs self.now.waiting }
     {
         self.octets
     }
 
-    /// The greatest number of which a datagram was handed in for good, or 0.
+    /// The greatest transaction number of which a datagram was handed in for good, or 0.
     pub fn floor(&self) -> u64
         ensures { result ≡ self.now.floor }
     {
@@ -72,7 +72,7 @@ impl LaneParking {
         self.is_lent
     }
 
-    /// Parks a datagram. Of those that then don't fit into `limit` octets the last ones go.
+    /// Parks a datagram, and then drops the last ones that don't fit into `limit` octets or exceed `MOST_DATAGRAMS`.
     pub fn park(&mut self, one: Parked, limit: u64) -> Result<(), AllocError>
         requires { costs self.old.waiting ≤ limit }
         ensures ok { OnOk result (self.new ≡ parked_in limit one self.old) }
@@ -103,7 +103,8 @@ impl LaneParking {
         Ok(Some(lent))
     }
 
-    /// The datagram that was lent was handed in for good, or else stays where it is.
+    /// Settles the datagram that was lent. If it was handed in for good, it goes, with those before it; else it stays
+    /// where it is.
     #[tactic(auto, using(crate::proofs::PlaceFacts::costs_drop_less))]
     pub fn settle(&mut self, number: u64, arrival: u64, is_taken: bool)
         ensures after { self.new ≡ settled is_taken number arrival self.old }
@@ -117,7 +118,7 @@ impl LaneParking {
         }
     }
 
-    /// Nothing waits any more of the transaction with this number.
+    /// Drops what waits of the transaction with this number.
     #[tactic(auto, using(crate::proofs::PlaceFacts::costs_filter, crate::proofs::PlaceFacts::fitting_all))]
     pub fn forget(&mut self, number: u64)
         ensures after { self.new ≡ without_number number self.old }
@@ -127,7 +128,7 @@ impl LaneParking {
         self.octets = fit(&self.waiting, self.octets).1;
     }
 
-    /// The last datagrams of the highest number go, until the others take up half as much at most.
+    /// Drops the last datagrams, those of the highest numbers, until the others take up half as much at most.
     #[tactic(auto, using(crate::proofs::PlaceFacts::fitting_room))]
     pub fn give_way(&mut self)
         ensures after { self.new ≡ halved self.old }
@@ -176,7 +177,7 @@ impl LaneParking {
     }
 }
 
-// Parks a datagram; returns how much of the room those that wait take up then.
+// Parks a datagram, and returns how many octets of the room those that wait take up then.
 fn park_in(
     waiting: &mut VecDeque<Parked>,
     octets: u64,
@@ -234,7 +235,7 @@ fn insert(waiting: &mut VecDeque<Parked>, one: Parked) -> Result<(), AllocError>
     }
 }
 
-// Where a datagram with a number is inserted.
+// The place at which a datagram with a number is inserted.
 #[tactic(auto, using(crate::proofs::PlaceFacts::first_place, crate::proofs::PlaceFacts::no_place))]
 fn entry_place(waiting: &VecDeque<Parked>, number: u64) -> usize
     ensures { result ≡ position_or_len (is_above number) waiting.now.items }
@@ -252,7 +253,7 @@ fn first_above(waiting: &VecDeque<Parked>, number: u64) -> Option<usize>
     waiting.iter().position(|one| number < one.number)
 }
 
-// Where the first datagram stands that comes after the one with this number and arrival.
+// The place of the first datagram that comes after the one with this number and arrival, or the end.
 #[tactic(auto, using(crate::proofs::PlaceFacts::first_place, crate::proofs::PlaceFacts::no_place))]
 fn behind_place(waiting: &VecDeque<Parked>, number: u64, arrival: u64) -> usize
     ensures { result ≡ position_or_len (is_behind number arrival) waiting.now.items }
@@ -282,7 +283,7 @@ fn keep_others(waiting: &mut VecDeque<Parked>, number: u64)
     );
 }
 
-// How many of the first datagrams fit into some octets, and how many octets those are.
+// How many of the first datagrams fit into some octets, and how many octets those take up.
 fn fit(waiting: &VecDeque<Parked>, limit: u64) -> (usize, u64)
     ensures count { result.0 ≡ length (fitting limit waiting.now.items) }
     ensures octets { result.1 ≡ costs (fitting limit waiting.now.items) }
@@ -300,7 +301,7 @@ fn fit(waiting: &VecDeque<Parked>, limit: u64) -> (usize, u64)
     (waiting.len(), limit - left)
 }
 
-// Takes out the first datagrams, so many; returns how many octets are left.
+// Takes out so many of the first datagrams, and returns how many octets the others take up.
 fn drop_front(waiting: &mut VecDeque<Parked>, octets: u64, count: usize) -> u64
     requires { octets ≡ costs waiting.old.items }
     ensures rest { waiting.new.items ≡ drop count waiting.old.items }
@@ -315,7 +316,8 @@ fn drop_front(waiting: &mut VecDeque<Parked>, octets: u64, count: usize) -> u64
     octets
 }
 
-// Drops the last datagrams that don't fit into some octets, or of which more than enough wait; returns how many octets are left.
+// Drops the last datagrams that don't fit into some octets or exceed `MOST_DATAGRAMS`, and returns how many octets the
+// others take up.
 fn cut(waiting: &mut VecDeque<Parked>, limit: u64) -> u64
     ensures within { waiting.new.items ≡ within limit waiting.old.items }
     ensures octets { result ≡ costs waiting.new.items }
@@ -324,7 +326,7 @@ fn cut(waiting: &mut VecDeque<Parked>, limit: u64) -> u64
     shorten(waiting, limit)
 }
 
-// Drops the last datagrams that don't fit into some octets; returns how many octets are left.
+// Drops the last datagrams that don't fit into some octets, and returns how many octets the others take up.
 #[tactic(auto, using(crate::proofs::PlaceFacts::fitting_is_front))]
 fn shorten(waiting: &mut VecDeque<Parked>, limit: u64) -> u64
     ensures fitting { waiting.new.items ≡ fitting limit waiting.old.items }

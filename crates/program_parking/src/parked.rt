@@ -3,7 +3,7 @@ ghost use Rattle.program_parking.specs.Lanes.{cost};
 
 use cfdp_types::Octets;
 
-/// How many octets a datagram takes up in the room beside its own.
+/// How many octets a datagram takes up in the room besides its own.
 const OVERHEAD_OCTETS: u64 = 64;
 
 /// A parked datagram.
@@ -27,7 +27,7 @@ pub struct Lent {
     pub octets: Octets,
 }
 
-/// How much of the room a datagram takes up: its octets and those with which it is kept.
+/// How many octets of the room a datagram takes up: its own and `OVERHEAD_OCTETS`.
 pub(crate) fn cost_of(one: &Parked) -> u64
     ensures { result ≡ cost one.now }
 {

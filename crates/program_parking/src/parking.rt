@@ -31,7 +31,7 @@ impl Model for Parking {
 }
 
 impl Parking {
-    /// No datagram waits for any of so many lanes, and so many octets have room.
+    /// No datagram waits for any of so many lanes, and there is room for so many octets.
     pub fn new(alloc: Global, lanes: usize, room: u64) -> Result<Parking, AllocError>
         ensures lanes { IfOk result (λ p. length p.lanes ≡ lanes) }
         ensures empty { IfOk result (λ p. All (λ lane. lane ≡ record { waiting = []; is_lent = false; floor = 0 }) p.lanes) }
@@ -57,7 +57,7 @@ impl Parking {
         self.lanes.as_slice()
     }
 
-    /// How much of the room is taken up.
+    /// How many octets of the room are taken up.
     pub fn used(&self) -> u64
         ensures value { result ≡ used self.now.lanes }
         ensures room { result ≤ self.now.room }
@@ -67,9 +67,9 @@ impl Parking {
 }
 
 impl Parking {
-    /// Parks a datagram of a transaction, by its number, which came at `since`, in milliseconds since 1970. Nothing is parked
-    /// if a datagram with a greater number was handed in for good. If there is no room, the last ones of the lane's
-    /// highest number go.
+    /// Parks a datagram of a transaction, by its number, which came at `since`, in milliseconds since 1970. Parks
+    /// nothing if a datagram with a greater number was handed in for good. If there is no room, drops the lane's last
+    /// datagrams, those of the highest numbers.
     pub fn park(
         &mut self,
         place: usize,
@@ -100,7 +100,8 @@ impl Parking {
         Ok(())
     }
 
-    /// Lends the next datagram of a lane to be handed in, unless one is lent already. The error says that memory ran out.
+    /// Lends the next datagram of a lane to be handed in, unless one is lent already. The error says that memory ran
+    /// out.
     pub fn lend(&mut self, place: usize) -> Result<Option<Lent>, AllocError>
         ensures lent { IfOk result (λ lent. lent ≡ lendable_at (slice_get self.old.lanes place)) }
         ensures ok { OnOk result (self.new ≡ replaced place lending self.old) }
@@ -113,7 +114,8 @@ impl Parking {
         Ok(lent)
     }
 
-    /// The datagram that was lent, by its number and arrival, was handed in for good, or else stays where it is.
+    /// Settles the datagram that was lent, by its number and arrival. If it was handed in for good, it goes, with those
+    /// before it; else it stays where it is.
     pub fn settle(&mut self, place: usize, number: u64, arrival: u64, is_taken: bool)
         ensures { self.new ≡ replaced place (settled is_taken number arrival) self.old }
     {
@@ -124,7 +126,7 @@ impl Parking {
         }
     }
 
-    /// Nothing waits any more of the transaction with this number in a lane.
+    /// Drops what waits in a lane of the transaction with this number.
     pub fn forget(&mut self, place: usize, number: u64)
         ensures { self.new ≡ replaced place (without_number number) self.old }
     {
@@ -135,7 +137,8 @@ impl Parking {
         }
     }
 
-    /// Memory ran out: the last datagrams of a lane's highest number go, until its others take up half as much at most.
+    /// Memory ran out: drops a lane's last datagrams, those of the highest numbers, until its others take up half as
+    /// much at most.
     pub fn give_way(&mut self, place: usize)
         ensures { self.new ≡ replaced place halved self.old }
     {
@@ -175,7 +178,7 @@ fn lend_at(lanes: &mut Vec<LaneParking>, place: usize) -> Result<Option<Lent>, A
     lanes[place].lend()
 }
 
-// Settles the datagram that was lent of the lane at a place; returns how much of the room the lane takes up then.
+// Settles the datagram that was lent from the lane at a place; returns how much of the room the lane takes up then.
 fn settle_at(
     lanes: &mut Vec<LaneParking>,
     place: usize,

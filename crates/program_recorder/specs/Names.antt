@@ -8,7 +8,7 @@ use Rattle.line_words.specs.Operands.{◌>>=◌, number_of}
 abbrev pub name_text : TxnKey → List ℕ
 name_text key = decimal key.source.0 ++ (codes "." ++ (decimal key.seq ++ codes ".script"))
 
--- where the first point stands
+-- the place of the first point
 abbrev pub point_place : List ℕ → Option ℕ
 point_place name = position (λ octet. octet == 46) name
 
@@ -32,7 +32,7 @@ key_of source seq = do
 abbrev pub key_by : List ℕ → List ℕ → List ℕ → Option TxnKey
 key_by source seq ending = if bytes_eq ending (codes "script") then key_of source seq else None
 
--- the second number and the ending of a name, behind its first point
+-- the transaction of a name, from its first number and what comes after its first point
 abbrev pub key_with : List ℕ → List ℕ → Option TxnKey
 key_with source rest = do
   place ← point_place rest

@@ -24,7 +24,7 @@ pub struct Facts<'a> {
     /// When the first and the last indication came, if that was noted.
     pub begun: Option<Moment>,
     pub last: Option<Moment>,
-    /// The bundle of the indication that ended the transaction, with that one alone; none if it hasn't ended.
+    /// The indication that ended the transaction, alone in its bundle; `None` if it hasn't ended.
     pub end: Option<Bundle>,
 }
 
@@ -108,7 +108,7 @@ fn push_last(alloc: Global, text: &mut String, last: Option<Moment>) -> Result<(
     push_moment(alloc, text, "# last indication: ", last)
 }
 
-// Adds what came at a moment.
+// Adds when something came, or that it wasn't noted.
 fn push_moment(
     alloc: Global,
     text: &mut String,

@@ -13,13 +13,13 @@ use std::{fs, io};
 // How many of the oldest recordings are removed at once.
 const REMOVALS: usize = 1_024;
 
-/// A folder with one file for each recording, `SOURCE.SEQ.script`, and so many of them at most: the oldest ones go. Other
-/// files in the folder are left alone.
+/// A folder with one file for each recording, `SOURCE.SEQ.script`. It keeps at most so many and removes the oldest
+/// ones. Other files in the folder are left alone.
 #[derive(Drop)]
 pub struct Keeper {
     folder: String,
     most: usize,
-    /// Those in the folder, once it was listed.
+    /// The recordings in the folder, once it was listed.
     kept: Option<KeptKeys>,
 }
 
@@ -40,8 +40,9 @@ impl Keeper {
         }
     }
 
-    /// Keeps a transaction's recording, in place of an earlier one of the same transaction, and removes those that are too many.
-    /// After an error there may be less in the folder than was noted, or a file that ends with `.part`.
+    /// Keeps a transaction's recording, in place of an earlier one of the same transaction. Then removes the oldest
+    /// ones if there are too many, at most `REMOVALS` at once. After an error there may be less in the folder than was
+    /// noted, or a file that ends with `.part`.
     pub fn keep<R: Files + AllocGlobal + Copy + Drop>(
         &mut self,
         rt: &R,
@@ -58,7 +59,7 @@ impl Keeper {
         ended
     }
 
-    // Writes a recording and removes others, by those that are kept.
+    // Writes a recording, notes it among those that are kept, and removes the oldest ones if there are too many.
     fn write<R: Files>(
         &self,
         rt: &R,
@@ -89,7 +90,7 @@ impl Keeper {
     }
 }
 
-// Writes a recording beside its path, and then gives it that path.
+// Writes a recording to a file beside its path, and then renames that file to the path.
 fn write_file<R: Files>(
     rt: &R,
     alloc: Global,

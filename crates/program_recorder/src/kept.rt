@@ -24,7 +24,7 @@ impl KeptKeys {
         self.keys.len()
     }
 
-    /// Adds a transaction as the newest one; it stands there once.
+    /// Adds a transaction as the newest one, or moves it there if it is among them already.
     pub fn note(&mut self, key: TxnKey) -> Result<(), AllocError> {
         if let Some(place) = self.place_of(key)
             && place < self.keys.len()
@@ -35,7 +35,7 @@ impl KeptKeys {
         Ok(())
     }
 
-    /// Takes the oldest one away, if there are more than `most`.
+    /// Removes the oldest one and returns it, if there are more than `most`.
     pub fn take_over(&mut self, most: usize) -> Option<TxnKey> {
         if self.keys.len() > most {
             self.keys.pop_front()

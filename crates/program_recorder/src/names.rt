@@ -15,7 +15,7 @@ pub fn push_name(text: &mut String, key: TxnKey) -> Result<(), AllocError>
     write!(text, "{source}.{seq}.script")
 }
 
-/// The transaction whose file has this name; none for any other name.
+/// The transaction whose file has this name; `None` for any other name.
 pub fn key_of_name(name: &[u8]) -> Option<TxnKey>
     ensures { result ≡ key_of_name name.now }
 {
@@ -46,7 +46,7 @@ fn key_by(source: &[u8], seq: &[u8], ending: &[u8]) -> Option<TxnKey>
     })
 }
 
-// Where the first point stands.
+// The place of the first point.
 fn point_place(name: &[u8]) -> Option<usize>
     ensures place { result ≡ point_place name.now }
     ensures within { IfSome result (λ at. at < length name.now) }

@@ -6,7 +6,7 @@ use memchr::{memchr, memrchr};
 /// The most octets of a piece, unless its only line is longer.
 pub const PIECE_OCTETS: usize = 262_144;
 
-/// How many octets of a text's rest are its next piece: the last one ends with the text, each other one with a line.
+/// How many octets of a text's rest its next piece has. The last piece ends with the text, each other one with a line.
 pub fn piece_length(rest: &[u8]) -> usize
     ensures { IsPiece rest.now result }
 {
@@ -18,7 +18,8 @@ pub fn piece_length(rest: &[u8]) -> usize
     }
 }
 
-// After which octet the rest is to be cut: after the last line that is whole within a piece, or else after the first line.
+// After how many octets the rest is to be cut: after the last line that is whole within a piece, or else after the
+// first line. A rest shorter than a piece is not cut.
 fn cut_in(rest: &[u8]) -> usize {
     let feed = match rest.get(..PIECE_OCTETS) {
         Some(most) => memrchr(b'\n', most).or(memchr(b'\n', rest)),

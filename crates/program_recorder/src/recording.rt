@@ -17,8 +17,9 @@ pub struct Recording {
     pub script: String,
 }
 
-/// Records the transaction of a journal, for the configuration that its entity ran with: its lane's place, and for a
-/// transaction that the entity itself opened where the numbers of its lanes have to begin.
+/// Records the transaction of a journal. `config` is the configuration that its entity ran with, and `place` is its
+/// lane's place. For a transaction that the entity itself opened, `first` says where the numbers of its lanes have to
+/// begin.
 pub fn recording_of(
     alloc: Global,
     config: Config,
@@ -35,8 +36,8 @@ pub fn recording_of(
     Ok(Recording { heading, script })
 }
 
-/// Where the numbers of a fresh entity's lanes have to begin for it to open this transaction; none for a transaction that
-/// another entity opened.
+/// Where the numbers of a fresh entity's lanes have to begin for it to open this transaction. `None` for a transaction
+/// that another entity opened.
 pub fn first_of(config: &Config, key: TxnKey) -> Option<u64>
     ensures some { IfSome result (λ first. (key.source ≡ config.now.entity.local)
         × (first ≡ key.seq / (config.now.entity.put_lanes * length config.now.users))) }

@@ -127,7 +127,7 @@ impl Sightings {
         Ok(Sightings { users: all })
     }
 
-    /// Notes a bundle at its moment.
+    /// Notes a bundle that came at a moment.
     pub fn note(&mut self, bundle: &Bundle, at: Moment) {
         let Some(lanes) = self.users.get_mut(bundle.user) else {
             return;

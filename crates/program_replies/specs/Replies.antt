@@ -5,7 +5,7 @@ use Rattle.program_start.specs.declared.fault.ProgramFault.TheVariants as fault
 use Rattle.program_words.specs.declared.fault.WordsFault.{WordsFault}
 use Rattle.program_words.specs.declared.fault.WordsFault.TheVariants as words
 
--- the fault of a program whose command line has one
+-- the fault of a program, by that of its command line
 abbrev pub fault_of : WordsFault → ProgramFault
 fault_of words.NoMemory = fault.NoMemory
 fault_of its = fault.Usage

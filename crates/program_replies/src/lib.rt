@@ -1,4 +1,4 @@
-//! What a program replies to a command line by which nothing starts: its help, its version, or its fault.
+//! What a program replies to a command line that starts nothing: its help, its version, or its fault.
 #![tactic(auto)]
 
 mod replies;

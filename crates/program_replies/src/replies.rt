@@ -6,7 +6,7 @@ use program_words::WordsFault;
 use std::alloc::Global;
 use std::io::Write;
 
-/// The fault of a program whose command line has one.
+/// The fault of a program, by that of its command line.
 pub fn fault_of(fault: WordsFault) -> ProgramFault
     ensures { result ≡ fault_of fault }
 {
@@ -16,7 +16,8 @@ pub fn fault_of(fault: WordsFault) -> ProgramFault
     }
 }
 
-/// The help or the version, where a command line asks for it; any other fault of the line is the program's.
+/// The help or the version, if a command line asks for it. Any other fault of the line is returned as the program's
+/// fault.
 pub fn asked_text(
     fault: WordsFault,
     help: &'static str,
@@ -32,7 +33,7 @@ pub fn asked_text(
     }
 }
 
-/// Reports why the command line of a program of this name has no words; returns the exit status.
+/// Reports the fault of the command line of a program of this name, and returns the exit status.
 pub fn tell_words_fault<E: Write>(
     alloc: Global,
     errors: &mut E,

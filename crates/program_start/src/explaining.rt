@@ -62,9 +62,9 @@ pub fn push_explanation<R: Net + Files>(
     }
 }
 
-/// Adds a line that says exactly what is wrong, likewise: of a configuration the table, the key, the line, what was found and
-/// what is allowed; of a file and an address the system's reason. Nothing comes of a control socket or of numbers, which others
-/// explain.
+/// Adds a line that says exactly what is wrong, likewise. For a configuration it says the table, the key, the line,
+/// what was found and what is allowed; for a file or an address, the system's reason. Adds nothing about a control
+/// socket or numbers, which others explain.
 pub fn push_reason<R: Net + Files>(
     rt: &R,
     alloc: Global,
@@ -150,7 +150,7 @@ fn push_read<R: Files>(rt: &R, text: &mut String, started: &Started<'_>) -> Resu
     }
 }
 
-// Adds why a file can't be read; nothing if it can be. A pipe or the like is not opened, since that might wait for a
+// Adds why a file can't be read; nothing if it can be. A pipe or the like is not opened, because that might wait for a
 // writer.
 fn push_unread<R: Files>(rt: &R, text: &mut String, path: &str) -> Result<(), AllocError> {
     match fs::metadata(rt, path) {

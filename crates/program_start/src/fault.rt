@@ -19,14 +19,15 @@ pub enum ProgramFault {
     Read,
     /// A file to be sent can't be read, and why.
     Unread(Unread),
-    /// The configuration is not taken; the number is its fault's.
+    /// The configuration has a fault, whose number this is.
     Config(u8),
     /// The socket can't be opened at its address.
     Bind,
     /// The file of numbers has no number, can't be read or written, or is in use by another program; or the numbers are
     /// used up.
     Numbers,
-    /// The file of the outbox can't be read or written, has a line that says nothing here, or is in use by another program.
+    /// The file of the outbox can't be read or written, has a line that can't be parsed or that doesn't put a file in
+    /// the outbox by this configuration, has more files than may wait, or is in use by another program.
     Outbox,
     /// A thread can't be started.
     Start,

@@ -74,7 +74,7 @@ pub(crate) fn octets_of<R: Files>(
     read_up_to(rt, alloc, path, CONFIG_OCTETS, 0).map_err(|error| fault_of(&error))
 }
 
-/// Reads a file as a configuration. A file that isn't UTF-8 isn't TOML.
+/// Reads a file as a configuration. One that isn't UTF-8 has the fault `BadToml`.
 pub(crate) fn read_configuration<R: Files>(
     rt: &R,
     alloc: Global,
@@ -112,7 +112,7 @@ pub fn load_file<R: Files>(rt: &R, alloc: Global, path: &str) -> Result<Octets, 
     }
 }
 
-// The fault for what is no plain file.
+// The fault for what isn't a plain file.
 fn no_plain_file(found: &Metadata) -> ProgramFault {
     if found.is_dir() {
         ProgramFault::Unread(Unread::Folder)

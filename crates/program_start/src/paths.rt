@@ -32,8 +32,8 @@ fn words_of(kind: ErrorKind) -> Option<&'static str> {
     }
 }
 
-/// Adds a line that says why a file can't be read, if it can't be: it isn't there, may not be read, isn't a plain file, or has
-/// more than `most` octets. A pipe or the like is not opened, since that might wait for a writer.
+/// Adds a line that says why a file can't be read, if it can't be: it isn't there, may not be read, isn't a plain file,
+/// or has more than `most` octets. A pipe or the like is not opened, because that might wait for a writer.
 pub fn push_file_reason<R: Files>(
     rt: &R,
     text: &mut String,
@@ -54,7 +54,7 @@ pub fn push_file_reason<R: Files>(
     }
 }
 
-// Adds what something is that isn't a plain file.
+// Adds a line that says what a path leads to, which isn't a plain file: a folder, or something else.
 fn push_kind(text: &mut String, path: &str, found: &Metadata) -> Result<(), AllocError> {
     if found.is_dir() {
         writeln!(text, "{path}: is a folder")
@@ -76,7 +76,7 @@ pub fn push_folder_reason<R: Files>(
     }
 }
 
-/// The folder in which a path leads to a file.
+/// The folder of the file that a path leads to.
 pub fn folder_of(path: &str) -> &str {
     match path.rsplit_once('/') {
         None => ".",

@@ -27,8 +27,8 @@ pub enum Sources {
     Any,
     /// Those from an address in the configuration. All others are counted and dropped unread.
     KnownAlone,
-    /// Of these, those whose PDU comes from the address of the entity that it says it comes from. All others are counted and
-    /// dropped.
+    /// Of these, those whose PDU comes from the address of the entity that it says it comes from. All others are
+    /// counted and dropped.
     OwnAlone,
 }
 
@@ -64,9 +64,9 @@ impl<'a> Arrivals<'a> {
         }
     }
 
-    // The PDU for a worker, from the first `count` octets that were read. A datagram is counted and dropped if it is not taken,
-    // is not a PDU, comes from another address than that of its own entity where that is wanted, or if memory runs out for it even
-    // after parked ones gave way.
+    // The PDU for a worker, from the first `count` octets that were read. A datagram is counted and dropped if it is
+    // not taken, is not a PDU, comes from another address than that of its own entity where that is wanted, or if
+    // memory runs out for it even after parked ones gave way.
     fn pdu<R: Wait + Clock>(
         &self,
         forwarder: &Forwarder<'_, R>,
@@ -104,9 +104,10 @@ impl<'a> Arrivals<'a> {
 }
 
 impl<'a, 'b, R: Wait + Clock> Source<R, Result<Done, Refused>, Forwarder<'a, R>> for Arrivals<'b> {
-    /// Takes a parked datagram that may be handed in, or else waits for a datagram that is taken and is a PDU; one that has
-    /// to wait behind parked ones is parked. After a failed read it pauses, the longer the more have failed in a row. `None` once
-    /// the desk is closed, which is checked after each read and once a second. A worker that finds the desk closed wakes the next.
+    /// Takes a parked datagram that may be handed in, or else waits for a datagram that is taken and is a PDU; one that
+    /// has to wait behind parked ones is parked. After a failed read it pauses, the longer the more have failed in a
+    /// row. `None` once the desk is closed, which is checked after each read and once a second. A worker that finds the
+    /// desk closed wakes the next.
     fn next(&self, rt: &R, forwarder: &mut Forwarder<'a, R>) -> Option<Pdu> {
         let mut pause = SHORT_PAUSE_MS;
         for _ in rt.forever() {

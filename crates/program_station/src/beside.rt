@@ -18,8 +18,8 @@ use std::thread;
 use std::thread::Threads;
 use std::time::Clock;
 
-/// A control socket, its path, and the seats of its clients; and a socket for clients that only watch, with its path, where
-/// there is one.
+/// A control socket, its path, and the seats of its clients; and a socket for clients that only watch, with its path,
+/// if there is one.
 #[derive(Clone, Copy)]
 pub struct Control<'x> {
     pub socket: &'x ControlSocket,

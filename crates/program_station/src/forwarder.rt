@@ -1,4 +1,4 @@
-//! Handles a worker's answers.
+//! Handles what the entity returns to a worker.
 use crate::arrivals::Arrivals;
 use crate::beside::Common;
 use crate::parked::{Crowd, WorkersLot};
@@ -25,8 +25,8 @@ use txn_events::Refusal;
 // Room for the longest datagram, and one octet more.
 const DATAGRAM_OCTETS: usize = 65_536;
 
-/// Sends the PDUs of a worker's steps, and leaves the rest of each step at the desk. A datagram that its lane can't take yet
-/// is parked, if there is a lot.
+/// Sends the PDUs of a worker's steps, and leaves the rest of each step at the desk. A datagram that its lane can't
+/// take yet is parked, if there is a lot.
 #[derive(Drop)]
 pub struct Forwarder<'a, R> {
     rt: &'a R,
@@ -93,8 +93,8 @@ impl<'a, R: Wait + Clock> Forwarder<'a, R> {
         }
     }
 
-    /// Takes a parked datagram that may be handed in at once, if there is one. The main thread may have looked while one was out
-    /// for which memory ran out, so it looks again.
+    /// Takes a parked datagram that may be handed in at once, if there is one. If memory for its PDU runs out, the main
+    /// thread is woken: it may have looked while the datagram was out.
     pub(crate) fn next_parked(&mut self) -> Option<Pdu> {
         match self.lot.next_pdu(self.rt) {
             Ok(pdu) => pdu,
@@ -105,14 +105,14 @@ impl<'a, R: Wait + Clock> Forwarder<'a, R> {
         }
     }
 
-    /// Parks the datagram that was read, from its first `count` octets, if others of its lane wait before it; returns whether
-    /// it did.
+    /// Parks the datagram that was read, from its first `count` octets, if others of its lane wait before it; returns
+    /// whether it did.
     pub(crate) fn parks_behind(&mut self, count: usize) -> bool {
         self.lot.is_occupied() && self.parks(count, Crowd::Wanted)
     }
 
-    // Parks the datagram that was read, unless it is a Prompt: the peer asks again. If something was dropped for it, that counts
-    // as a refusal.
+    // Parks the datagram that was read, unless it is a Prompt: the peer asks again. If something was dropped for it,
+    // that counts as a refusal.
     fn parks(&self, count: usize, crowd: Crowd) -> bool {
         if self.is_prompted {
             return false;
@@ -130,8 +130,8 @@ impl<'a, R: Wait + Clock> Forwarder<'a, R> {
         true
     }
 
-    // Settles the parked datagram that was handed in, if there is one; returns whether there was one. The main thread may have
-    // looked while it was out, so it looks again if anything waits.
+    // Settles the parked datagram that was handed in, if there is one; returns whether there was one. The main thread
+    // may have looked while it was out, so it is woken if anything waits.
     fn settle_handed(&mut self, is_taken: bool) -> bool {
         let was_handed = self.lot.settle(self.rt, is_taken);
         if was_handed && self.lot.is_occupied() {
@@ -140,8 +140,8 @@ impl<'a, R: Wait + Clock> Forwarder<'a, R> {
         was_handed
     }
 
-    /// For a caller that ran out of memory: has parked datagrams give way, and counts that as a refusal. Returns whether anything
-    /// was dropped.
+    /// For a caller that ran out of memory: drops the later half of what is parked for each lane. Returns whether
+    /// anything was dropped, and counts that as a refusal.
     pub(crate) fn gives_way(&self) -> bool {
         let gives_way = self.lot.gives_way(self.rt);
         if gives_way {
@@ -150,8 +150,8 @@ impl<'a, R: Wait + Clock> Forwarder<'a, R> {
         gives_way
     }
 
-    // Puts a datagram that was refused for now back, or parks it; returns whether it waits. Where memory ran out, it waits if
-    // others gave way.
+    // Puts back a datagram that was refused for now, or parks it, and returns whether it waits. If memory ran out, it
+    // waits only if others were dropped.
     fn waits(&mut self, refusal: &EntityRefusal) -> bool {
         let may_wait = if lacks_memory(refusal) {
             self.gives_way()
@@ -175,7 +175,7 @@ impl<'a, R: Wait + Clock> Forwarder<'a, R> {
         self.is_prompted = matches!(pdu.body(), Body::Prompt(_));
     }
 
-    // Sends the PDUs of a step. Those that answer a Prompt may have to be left out.
+    // Sends the PDUs of a step. Those that respond to a Prompt may have to be left out.
     fn send(&mut self, done: &Done) {
         if self.is_prompted {
             self.sender.send_prompted(done, moment(self.rt));
@@ -240,8 +240,8 @@ impl<'a, R: Wait + Clock> Carrier<Result<Done, Refused>> for Forwarder<'a, R> {
 }
 
 /// One forwarder for each worker that `tallies` counts. They wake the main thread at once for a deposit and for a step
-/// of one of the entity's sending transactions, and for other steps as soon as `others` says. Datagrams are parked in the
-/// lot, if there is one.
+/// of one of the entity's sending transactions, and for other steps as soon as `others` says. Datagrams are parked in
+/// the lot, if there is one.
 pub fn forwarders_of<'a, N: Names, R: Copy>(
     common: &Common<'a, N, R>,
     tallies: &'a Tallies,

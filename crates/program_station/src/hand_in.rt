@@ -11,11 +11,11 @@ use shared_lanes::{Names, NoGate};
 use std::sync::Wait;
 use std::time::Clock;
 
-// How many parked datagrams are handed in in a turn at most.
+// How many parked datagrams a turn hands in at most.
 const HANDED: usize = 64;
 
 impl<'a, N: Names, R: Wait + Copy + Clock> Station<'a, N, R> {
-    /// Hands in datagrams parked here from now on.
+    /// From now on hands in the datagrams that are parked in this lot.
     pub fn use_lot(&mut self, lot: &'a Lot) {
         self.lot = Some(lot);
     }
@@ -40,7 +40,8 @@ impl<'a, N: Names, R: Wait + Copy + Clock> Station<'a, N, R> {
         }
     }
 
-    // Has parked datagrams give way where memory ran out. What is dropped is reported like what has no room.
+    // Memory ran out: drops the later half of what is parked for each lane. What is dropped is reported like what has
+    // no room.
     pub(crate) fn give_way(&self) {
         if let Some(lot) = self.lot {
             let _dropped = lot.give_way(self.rt);
@@ -111,8 +112,8 @@ impl<'a, N: Names, R: Wait + Copy + Clock> Station<'a, N, R> {
         );
     }
 
-    // Hears of a step. One that arms no timer may have ended its transaction: what waits for its lane may be handed in, and
-    // if it is one of this entity's own, a file of the outbox may have a lane.
+    // Hears of a step. One that arms no timer may have ended its transaction: what waits for its lane may be handed in,
+    // and if it is one of this entity's own, a file of the outbox may have a lane.
     pub(crate) fn hear(&mut self, step: &Step) {
         if step.key.source == self.entity.config().entity().local && step.soonest() == u64::MAX {
             self.may_have_ended = true;

@@ -71,8 +71,8 @@ impl<'a> LinkBook<'a> {
         self.links.iter().position(|link| link.id == id)
     }
 
-    /// Limits the octets sent to this remote entity to this many a second from a moment on, or lets it share the pace of
-    /// the links without a limit of their own.
+    /// Limits the octets sent to this remote entity to this many a second from a moment on, or lets it share the pace
+    /// of the links without a limit of their own.
     pub(crate) fn limit(&mut self, place: usize, octets: Option<u64>, now: u64) {
         self.tallies.links.limit_replies(place, octets.unwrap_or(0));
         let left = self.tallies.remote_totals(place).octets_out;
@@ -177,8 +177,9 @@ impl<'a> LinkBook<'a> {
         })
     }
 
-    /// When the next PDU of a transaction's file may be sent. What else was sent to its entity meanwhile, such as the responses of
-    /// workers, counts too, as far as idle time doesn't pay for it, and holds the file back for a second at most.
+    /// When the next PDU of a transaction's file may be sent. What else was sent to its entity meanwhile, such as the
+    /// responses of workers, counts too, as far as idle time doesn't pay for it, and holds the file back for a second
+    /// at most.
     pub(crate) fn departure(&mut self, key: TxnKey, now: u64) -> Departure {
         let Some(place) = self.link_of(key) else {
             return Departure::Shared;
@@ -194,7 +195,7 @@ impl<'a> LinkBook<'a> {
 }
 
 impl<'a> LinkBook<'a> {
-    /// Octets of a transaction's file were sent at a moment.
+    /// Notes that octets of a transaction's file were sent at a moment.
     pub(crate) fn note_sent(&mut self, key: TxnKey, octets: u64, now: u64) {
         if let Some(place) = self.link_of(key)
             && let Some(link) = self.links.get_mut(place)

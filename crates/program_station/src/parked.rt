@@ -52,7 +52,8 @@ impl<'a> WorkersLot<'a> {
         }
     }
 
-    /// Where a refusal or a fault says that memory ran out: drops the later half of what is parked; returns whether anything was.
+    /// Where a refusal or a fault says that memory ran out: drops the later half of what is parked; returns whether
+    /// anything was.
     pub(crate) fn gives_way<R: Wait>(&self, rt: &R) -> bool {
         match self.lot {
             Some(lot) => lot.give_way(rt) > 0,
@@ -68,8 +69,8 @@ impl<'a> WorkersLot<'a> {
         }
     }
 
-    /// Takes a datagram to be handed in, of a lane that was heard of. If memory for its PDU runs out, it stays, and waits some
-    /// milliseconds.
+    /// Takes a datagram to be handed in, of a lane that was heard of. If memory for its PDU runs out, it stays, and
+    /// waits some milliseconds.
     pub(crate) fn next_pdu<R: Wait + Clock>(&mut self, rt: &R) -> Result<Option<Pdu>, AllocError> {
         let Some(lot) = self.lot else {
             return Ok(None);
@@ -92,7 +93,8 @@ impl<'a> WorkersLot<'a> {
         }
     }
 
-    /// Parks a datagram. None if it isn't parked: it goes to no lane, or nothing waits before it and that is wanted.
+    /// Parks a datagram. `None` if it isn't parked: there is no lot, it goes to no lane, memory for its PDU runs out,
+    /// or nothing waits before it though that is wanted.
     pub(crate) fn park<R: Wait + Clock>(
         &self,
         rt: &R,
@@ -107,8 +109,8 @@ impl<'a> WorkersLot<'a> {
         Some(lot.park(rt, address, octets, wall_moment(rt), moment(rt)))
     }
 
-    /// The datagram that was handed in, if there is one, was taken or refused for good, or else stays where it was; returns
-    /// whether there was one.
+    /// Settles the datagram that was handed in, if there is one: it was taken or refused for good, or else stays where
+    /// it was. Returns whether there was one.
     pub(crate) fn settle<R: Wait + Clock>(&mut self, rt: &R, is_taken: bool) -> bool {
         match (self.lot, self.handed.take()) {
             (Some(lot), Some(handed)) => {
@@ -119,7 +121,8 @@ impl<'a> WorkersLot<'a> {
         }
     }
 
-    /// Hears of a step. One that arms no timer may have ended its transaction, so what waits for its lane may be handed in.
+    /// Hears of a step. One that arms no timer may have ended its transaction, so what waits for its lane may be handed
+    /// in.
     pub(crate) fn hear<R: Wait>(&self, rt: &R, step: &Step) {
         if let Some(lot) = self.lot {
             hear_step(rt, lot, self.config, step);
@@ -127,7 +130,7 @@ impl<'a> WorkersLot<'a> {
     }
 }
 
-/// Has what waits for a step's lane handed in, if the step may have ended its transaction.
+/// Lets what waits for a step's lane be handed in, if the step may have ended its transaction.
 pub(crate) fn hear_step<R: Wait>(rt: &R, lot: &Lot, config: &Config, step: &Step) {
     if lot.is_occupied()
         && step.soonest() == u64::MAX

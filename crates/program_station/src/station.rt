@@ -32,7 +32,7 @@ const TIMER_KINDS: usize = 4;
 // How many timers of a released link run again in a turn at most.
 const GOING_ON: usize = 64;
 
-/// How many milliseconds later work is tried again that was refused because memory or room in a queue ran out.
+/// How many milliseconds later work that was refused because memory or room in a queue ran out is tried again.
 pub const REST_MS: u64 = 10;
 
 /// A step whose rest isn't noted yet, because memory ran out.
@@ -43,8 +43,8 @@ struct Unsettled {
     operations_done: usize,
 }
 
-/// An entity with the state of its main thread: the agenda, where received files are left to be stored, and what waits for
-/// memory. Nothing new is begun while something waits for memory.
+/// An entity with the state of its main thread: the agenda, where received files are left to be stored, and what waits
+/// for memory. Nothing new is begun while something waits for memory.
 #[derive(Drop)]
 pub struct Station<'a, N: Names, R: Copy> {
     pub(crate) rt: &'a R,
@@ -63,13 +63,13 @@ pub struct Station<'a, N: Names, R: Copy> {
     /// Where datagrams are parked, if any are.
     pub(crate) lot: Option<&'a Lot>,
     pub(crate) may_have_ended: bool,
-    /// Transactions that take no more events, since their journals are full.
+    /// Transactions that take no more events, because their journals are full.
     full: Vec<TxnKey>,
 }
 
 impl<'a, N: Names, R: Wait + Copy + Clock> Station<'a, N, R> {
-    /// A station without work, which sends at most `octets_a_second` for its files. All links are open. Memory for the timers of
-    /// all lanes is reserved, so the rest of a step needs none.
+    /// A station without work, which sends at most `octets_a_second` for its files. All links are open. Memory for the
+    /// timers of all lanes is reserved, so the rest of a step needs none.
     pub fn new(
         common: &Common<'a, N, R>,
         sender: PduSender<'a>,
@@ -99,8 +99,8 @@ impl<'a, N: Names, R: Wait + Copy + Clock> Station<'a, N, R> {
         })
     }
 
-    /// Gives a remote entity its own limit in octets a second for files from a moment on, or takes it away; whatever else is sent
-    /// to it counts, too. Returns whether the configuration has the entity.
+    /// Gives a remote entity its own limit in octets a second for files from a moment on, or takes it away; whatever
+    /// else is sent to it counts, too. Returns whether the configuration has the entity.
     pub fn limit(&mut self, remote: EntityId, octets_a_second: Option<u64>, now: u64) -> bool {
         match self.links.place_of(remote) {
             Some(place) => {
@@ -112,7 +112,8 @@ impl<'a, N: Names, R: Wait + Copy + Clock> Station<'a, N, R> {
         }
     }
 
-    /// Limits the octets a second for files over all links without a limit of their own from a moment on, or lifts that limit.
+    /// Limits the octets a second for files over all links without a limit of their own from a moment on, or lifts that
+    /// limit.
     pub fn limit_rest(&mut self, octets_a_second: Option<u64>, now: u64) {
         self.pace = self.pace.limited(octets_a_second, now);
         self.agenda.wake_all();
@@ -243,7 +244,8 @@ impl<'a, N: Names, R: Wait + Copy + Clock> Station<'a, N, R> {
         }
     }
 
-    // Continues what waits for memory, for which parked datagrams give way; returns whether all of it is done.
+    // Continues what waits for memory. If anything does, first drops the later half of what is parked for each lane.
+    // Returns whether all of it is done.
     fn catch_up(&mut self) -> bool {
         if !self.is_settled() {
             self.give_way();
@@ -284,8 +286,8 @@ impl<'a, N: Names, R: Wait + Copy + Clock> Station<'a, N, R> {
         count > 0
     }
 
-    /// Notes the steps of lanes whose files were stored, up to the first file that the store was given, and returns what became of
-    /// that; `None` if there is no more, or if something waits for memory.
+    /// Notes the steps of lanes whose files were stored, up to the first file that the store was given, and returns
+    /// what became of that; `None` if there is no more, or if something waits for memory.
     pub fn take_stored(&mut self) -> Option<StoredNote> {
         let rt = self.rt;
         for _ in rt.forever() {
@@ -303,8 +305,8 @@ impl<'a, N: Names, R: Wait + Copy + Clock> Station<'a, N, R> {
         None
     }
 
-    /// A turn: at most sixty-four parked datagrams, sixteen timers, and sixteen PDUs of files in rotation. Returns whether it did
-    /// any work.
+    /// A turn: at most sixty-four timers of a released link, sixty-four parked datagrams, sixteen expired timers, and
+    /// sixteen PDUs of files in rotation. Returns whether it did any work.
     pub fn turn(&mut self, now: u64) -> bool {
         if !self.is_settled() {
             return false;
@@ -316,7 +318,7 @@ impl<'a, N: Names, R: Wait + Copy + Clock> Station<'a, N, R> {
         has_gone_on || has_handed || has_expired || has_pumped
     }
 
-    // Lets timers run again that rested for a link which is open again; returns whether there were any.
+    // Lets timers run again that rested for a link that is open again. Returns whether there was such a link.
     fn go_on(&mut self) -> bool {
         let Some(place) = self.links.going_on() else {
             return false;
@@ -385,7 +387,8 @@ impl<'a, N: Names, R: Wait + Copy + Clock> Station<'a, N, R> {
         }
     }
 
-    // Puts back a timer whose expiration was refused, where that may pass; false if it may.
+    // Puts back a timer whose expiration was refused, if that may pass, or if the journal is full and there was no
+    // memory to note that. Returns false if it may pass.
     fn hold_expired(&mut self, timer: Armed, now: u64, refusal: &EntityRefusal) -> bool {
         let is_passing = fate_of_retry(obstacle_of(refusal)) == Fate::Again;
         if is_passing || (is_full(refusal) && !self.note_full(timer.key)) {
@@ -402,12 +405,12 @@ impl<'a, N: Names, R: Wait + Copy + Clock> Station<'a, N, R> {
         self.full.contains(&key) || self.full.push(key).is_ok()
     }
 
-    /// Takes a transaction that takes no more events, since its journal is full; it can't end by itself.
+    /// Takes out a transaction that takes no more events because its journal is full. It can't end by itself.
     pub fn take_full(&mut self) -> Option<TxnKey> {
         self.full.pop()
     }
 
-    /// Has a transaction that takes no more events taken again later.
+    /// Gives back a transaction that takes no more events, so that it is taken out again later.
     pub fn give_back_full(&mut self, key: TxnKey) {
         let _there_was_room = self.note_full(key);
     }
@@ -472,7 +475,8 @@ impl<'a, N: Names, R: Wait + Copy + Clock> Station<'a, N, R> {
         }
     }
 
-    // Holds a file whose next PDU was refused, as long as the refusal asks for.
+    // Lets a file whose next PDU was refused rest as long as the refusal asks for, or removes it if its transaction can
+    // make no more progress.
     fn hold_file(&mut self, key: TxnKey, now: u64, refusal: &EntityRefusal) {
         if is_full(refusal) {
             let _noted_where_there_is_memory = self.note_full(key);

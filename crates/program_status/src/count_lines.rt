@@ -18,8 +18,8 @@ const ROLES: [(Role, Side); 2] = [
 
 const CLASSES: [Class; 3] = [Class::Unknown, Class::One, Class::Two];
 
-/// Adds a line for each way in which transactions ended, for the files that came whole in each role, and for the last file
-/// that the store was given; nothing if nothing is counted.
+/// Adds a line for each way in which transactions ended, for the files that came whole in each role, and for the last
+/// file that the store was given; nothing if nothing is counted.
 pub(crate) fn push_counts(
     alloc: Global,
     text: &mut String,
@@ -41,7 +41,7 @@ pub(crate) fn push_counts(
     }
 }
 
-/// How many octets the file lacks that a lane receives, if that is counted.
+/// How many octets the file that a lane receives lacks, if that is counted.
 pub(crate) fn missing_in(shown: &Shown<'_>, place: Place, glance: &Glance) -> Option<u64> {
     let counts = shown.counts?;
     if glance.has_ended || glance.end != Side::Receiver {

@@ -9,7 +9,8 @@ use shared_lanes::Names;
 use std::alloc::{AllocError, Global};
 use std::sync::Wait;
 
-// How many transactions of a lane are followed until their ends and classes were seen. Of more, the earliest are no longer followed.
+// How many transactions of a lane are followed until their ends and classes were seen. If there are more, the earliest
+// are no longer followed.
 const FOLLOWED: usize = 16;
 
 // How a transaction ended: its condition, and whether its file came whole and was retained.
@@ -24,20 +25,22 @@ struct End {
 struct Followed {
     key: TxnKey,
     class: Class,
-    /// The size of a file that is sent, if it is known, or how many octets of one that is received arrived, each once.
+    /// The size of a file being sent, if it is known, or how many octets of one being received arrived, each counted
+    /// once.
     octets: Option<u64>,
     /// Its end, while its class isn't known.
     end: Option<End>,
 }
 
-/// What a server counts of transactions and files: those that ended, those that came whole, and the octets that arrived of
-/// each file being received.
+/// What a server counts of transactions and files: those that ended, those that came whole, and the octets that arrived
+/// of each file being received.
 #[derive(Drop)]
 pub struct StationCounts {
     local: EntityId,
     /// The followed transactions of each lane of each user.
     users: Vec<Vec<Vec<Followed>>>,
-    /// Transactions that were opened and abandoned to use up their numbers, and whose ends weren't seen yet. None is counted.
+    /// Transactions that were opened and abandoned to use up their numbers, and whose ends weren't seen yet. None is
+    /// counted.
     skipped: Vec<TxnKey>,
     /// Whether the class of one of them isn't known.
     lacks_class: bool,
@@ -83,7 +86,7 @@ impl StationCounts {
         self.count_left(left);
     }
 
-    /// A transaction was opened to use up its number, so it isn't counted. If memory runs out, it is.
+    /// Notes that a transaction was opened to use up its number, so it isn't counted. If memory runs out, it is.
     pub fn skip(&mut self, key: TxnKey) {
         let _has_memory = self.skipped.push(key);
     }
@@ -115,8 +118,8 @@ impl StationCounts {
         self.count_left(left);
     }
 
-    /// Asks the entity for the classes that aren't known, and counts the transactions that ended meanwhile. If a lane runs
-    /// another transaction already, the class stays unknown.
+    /// Asks the entity for the classes that aren't known, and counts the transactions that ended meanwhile. If a lane
+    /// runs another transaction already, the class stays unknown.
     pub fn settle<N: Names, R: Wait + Copy>(&mut self, rt: &R, entity: &Entity<N, R>) {
         if !self.lacks_class {
             return;
@@ -129,7 +132,7 @@ impl StationCounts {
         }
     }
 
-    /// How many octets of a lane's transaction arrived, each once.
+    /// How many octets of a lane's transaction arrived, each counted once.
     pub fn arrived(&self, place: Place, key: TxnKey) -> u64 {
         let lane = self
             .users
@@ -148,7 +151,7 @@ impl StationCounts {
         }
     }
 
-    // Does so for one lane.
+    // Asks for the classes that aren't known in one lane, and counts its transactions that ended meanwhile.
     fn settle_lane<N: Names, R: Wait + Copy>(
         &mut self,
         rt: &R,
@@ -187,7 +190,8 @@ impl StationCounts {
         }
     }
 
-    // Counts a transaction that ended, unless it was opened to use up its number. A file whose size isn't known isn't counted.
+    // Counts a transaction that ended, unless it was opened to use up its number. A file whose size isn't known isn't
+    // counted.
     fn count(&mut self, followed: Followed, end: End) {
         if self.was_skipped(followed.key) {
             return;
@@ -251,7 +255,8 @@ fn taken_from(lane: &mut Vec<Followed>, key: TxnKey) -> Option<Followed> {
     }
 }
 
-// A transaction of which nothing is known yet: nothing of a file that is received arrived, and the size of one that is sent is unknown.
+// A transaction of which nothing is known yet: of a file being received nothing arrived, and the size of one being sent
+// is unknown.
 fn unknown_one(key: TxnKey, role: Role) -> Followed {
     Followed {
         key,

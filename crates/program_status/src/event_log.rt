@@ -14,7 +14,7 @@ pub const PENDING_OCTETS: usize = 1_024 * 1_024;
 // How many milliseconds after a failed write the file is tried again.
 const REST_MS: u64 = 1_000;
 
-// How many milliseconds after a look at the path the next one is.
+// How many milliseconds after a look at the path the next one comes.
 const LOOK_MS: u64 = 500;
 
 // Which file a path leads to.
@@ -25,13 +25,14 @@ struct Identity {
 }
 
 /// A file to which events are appended. While it can't be written, events wait, and are lost once too many wait. A
-/// write that was cut short continues where it ended, so each line of the file is whole. If an earlier run ended within a line,
-/// as after a power cut, a line feed closes it first. If the path leads to another file later, or to none, it is opened anew.
+/// write that was cut short continues where it ended, so each line of the file is whole. If an earlier run ended within
+/// a line, as after a power cut, a line feed closes it first. If the path leads to another file later, or to none, it
+/// is opened anew.
 #[derive(Drop)]
 pub struct EventLog<R: Files> {
     alloc: Global,
     path: String,
-    /// The level from which on events are written, with their levels; all without it, as they are.
+    /// The level from which on events are written, with their levels. Without it all are written, as they are.
     least: Option<Level>,
     file: Option<R::File>,
     pending: Vec<u8>,
@@ -115,8 +116,8 @@ impl<R: Files> EventLog<R> {
         }
     }
 
-    /// Writes what waits, at a moment in milliseconds. After a failure, the next attempt is a second later. If the path leads to
-    /// the open file no longer, the file is opened anew first; that is looked at twice a second.
+    /// Writes what waits, at a moment in milliseconds. After a failure, the next attempt is a second later. If the path
+    /// no longer leads to the open file, the file is opened anew first; the path is looked at twice a second.
     pub fn flush(&mut self, rt: &R, now: u64) {
         if now >= self.look_due {
             self.look_due = now.saturating_add(LOOK_MS);
@@ -154,7 +155,7 @@ impl<R: Files> EventLog<R> {
         !self.is_failing
     }
 
-    // Opens the file anew where the path leads to another one, or to none.
+    // Opens the file anew if the path leads to another one, or to none.
     fn follow_path(&mut self, rt: &R) {
         if self.file.is_some() && leads_elsewhere(rt, self.path.as_str(), self.identity) {
             let _written_later = self.reopen(rt);
@@ -197,8 +198,8 @@ impl<R: Files> EventLog<R> {
         Ok(())
     }
 
-    // Opens the file, and notes which one it is. One that was made just now is opened once more, since another may have been put
-    // there meanwhile.
+    // Opens the file, and notes which one it is. One that was made just now is opened once more, since another may have
+    // been put there meanwhile.
     fn open_known(&mut self, rt: &R) -> io::Result<R::File> {
         let before = identity_at(rt, self.path.as_str());
         let file = open_log(rt, self.path.as_str())?;
@@ -235,7 +236,7 @@ fn labelled(alloc: Global, level: Level, line: &[u8]) -> Result<Vec<u8>, AllocEr
     Ok(text)
 }
 
-// Whether a write ended within a line that took these octets; without any it is as before.
+// Whether a write of these octets ended within a line; without any octets it is as before.
 fn is_within_line(octets: &[u8], before: bool) -> bool {
     match octets.last() {
         Some(last) => *last != b'\n',

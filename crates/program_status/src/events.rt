@@ -100,8 +100,8 @@ impl<'a, R: Wait + Files> Events<'a, R> {
         }
     }
 
-    /// Sends a client the last events, at most `most`, and all events from now on: those of a level and above with their levels, or
-    /// all as they are.
+    /// Sends a client the last events, at most `most`, and all events from now on: those of a level and above with
+    /// their levels, or all as they are.
     pub fn follow(
         &mut self,
         rt: &R,
@@ -163,7 +163,8 @@ impl<'a, R: Wait + Files> Events<'a, R> {
         self.add(EventKind::End, line);
     }
 
-    /// Reports a bundle's indications to the user of this name. Those of a large bundle are written to the log in pieces.
+    /// Reports a bundle's indications to the user of this name. Those of a large bundle are written to the log in
+    /// pieces.
     pub fn receive(&mut self, rt: &R, at: Moment, user: &str, bundle: &Bundle) {
         for indication in bundle.inds.as_slice() {
             let event = IndicationEvent {
@@ -201,7 +202,7 @@ impl<'a, R: Wait + Files> Events<'a, R> {
         self.add(EventKind::Hold, line);
     }
 
-    /// Reports that the link to a remote entity is held, since the time is over for which it was open.
+    /// Reports that the link to a remote entity is held, because the time for which it was open is over.
     pub fn hold_planned(&mut self, at: Moment, id: EntityId) {
         let head = self.next_head(at);
         let line = planned_hold_line(self.alloc, head, id);
@@ -236,7 +237,7 @@ impl<'a, R: Wait + Files> Events<'a, R> {
         self.add(EventKind::Unparked, line);
     }
 
-    /// Reports that a user's transaction was abandoned since its journal is full.
+    /// Reports that a user's transaction was abandoned because its journal is full.
     pub fn end_full(&mut self, at: Moment, user: &str, key: TxnKey) {
         let head = self.next_head(at);
         let line = journal_full_line(self.alloc, head, user, key);

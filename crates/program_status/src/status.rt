@@ -78,8 +78,9 @@ pub struct Shown<'a> {
 }
 
 /// Adds a line for the entity, for the log, for each user, for each lane that has run a transaction, for each file of
-/// the outbox, for each file being read or stored, for each lane for which datagrams are parked, for each remote entity,
-/// for each kind of refusal, for each note on lanes, and for what is counted. The lanes' locks are taken one at a time.
+/// the outbox, for each file being read or stored, for each lane for which datagrams are parked, for each remote
+/// entity, for each kind of refusal, for each note on lanes, and for what is counted. The lanes' locks are taken one at
+/// a time.
 pub fn push_status<N: Names, R: Wait + Copy>(
     rt: &R,
     alloc: Global,
@@ -331,7 +332,7 @@ fn push_remotes<N: Names, R: Copy>(
     Ok(())
 }
 
-// Until when the link to a remote entity is open by the wall clock, where that is for a time.
+// Until when the link to a remote entity is open by the wall clock, if it is open only for a time.
 fn open_until(shown: &Shown<'_>, remote: EntityId) -> Option<Moment> {
     let until = shown.windows.until(remote)?;
     let left = until.saturating_sub(shown.clock);

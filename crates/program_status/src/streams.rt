@@ -17,7 +17,8 @@ struct Stream {
     told: Vec<u8>,
 }
 
-/// The events of a turn, by what clients follow: all events as they are, or those of a level and above with their levels.
+/// The events of a turn, by what clients follow: all events as they are, or those of a level and above with their
+/// levels.
 #[derive(Drop)]
 pub(crate) struct Streams {
     streams: Vec<Stream>,
@@ -33,7 +34,7 @@ pub(crate) fn stream_of(least: Option<Level>) -> usize {
     }
 }
 
-/// How a client gets events that follows from a level on, or all events.
+/// How a client that follows from a level on, or follows all events, gets them.
 pub(crate) fn form_of(least: Option<Level>) -> Form {
     match least {
         None => Form::Plain,

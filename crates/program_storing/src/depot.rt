@@ -13,7 +13,7 @@ use std::sync::atomic::{AtomicBool, Ordering};
 use std::sync::{Condvar, CondvarTimeouts, Mutex, Wait};
 use std::time::{Clock, Duration};
 
-// How many milliseconds later work is tried again that the entity refused for now.
+// How many milliseconds later work that the entity refused for now is tried again.
 const REST_MS: u64 = 10;
 
 /// A received file on its way into the store.
@@ -31,8 +31,8 @@ pub struct Storing {
 pub(crate) struct Pending {
     pub(crate) storing: Storing,
     pub(crate) deposit: Deposit,
-    /// Up to which moment by the runtime's clock it is tried again, if storing it fails for a while. The store's thread sets it
-    /// at the first try.
+    /// Up to which moment by the runtime's clock it is tried again, if storing it fails for a while. The store's thread
+    /// sets it at the first try.
     pub(crate) last: Option<u64>,
 }
 
@@ -104,8 +104,8 @@ struct Trays {
     has_ended: bool,
 }
 
-/// Where the main thread leaves received files to be stored, and the thread that stores them leaves what became of each. Room
-/// for one file of each lane is reserved at the start.
+/// Where the main thread leaves received files to be stored, and the thread that stores them leaves what became of
+/// each. Room for one file of each lane is reserved at the start.
 #[derive(Drop)]
 pub struct Depot {
     trays: Mutex<Trays>,
@@ -194,7 +194,7 @@ impl Depot {
         self.trays.lock(rt).last_store
     }
 
-    /// Which file the store is at, and which wait since they couldn't be stored so far.
+    /// Which file the store is at, and which wait because they couldn't be stored so far.
     pub fn report<R: Wait>(&self, rt: &R, alloc: Global) -> Result<DepotReport, AllocError> {
         let mut waiting = Vec::new(alloc);
         let trays = self.trays.lock(rt);
@@ -244,7 +244,8 @@ impl Depot {
 }
 
 impl Depot {
-    // Takes what the store's thread does next at a moment, if there is anything. A lane that is told again comes before files.
+    // Takes what the store's thread does next at a moment, if there is anything. A lane that is told again comes before
+    // files.
     pub(crate) fn begin<R: Wait>(&self, rt: &R, now: u64) -> Option<Work> {
         let mut trays = self.trays.lock(rt);
         if soonest_untold(&trays) <= now {
@@ -255,7 +256,7 @@ impl Depot {
         Some(Work::Store(pending))
     }
 
-    // Has a file that couldn't be stored at a moment tried again later. It is returned if memory runs out.
+    // Puts off a file that couldn't be stored at a moment: it is tried again later. It is returned if memory runs out.
     pub(crate) fn put_off<R: Wait>(
         &self,
         rt: &R,
@@ -267,7 +268,8 @@ impl Depot {
         trays.queue.put_off(pending, now)
     }
 
-    // Has a lane told some milliseconds after a moment, which couldn't take the store's answer. It is returned if memory runs out.
+    // Puts off telling a lane that couldn't take the store's answer: it is told again some milliseconds after a moment.
+    // What it is told is returned if memory runs out.
     pub(crate) fn tell_later<R: Wait>(
         &self,
         rt: &R,

@@ -1,4 +1,4 @@
-//! Received files are stored by a thread of its own, so that a slow disk holds nothing else up.
+//! A separate thread stores received files, so that a slow disk holds nothing else up.
 #![tactic(auto)]
 
 mod depot;

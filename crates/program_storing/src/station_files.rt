@@ -4,7 +4,7 @@ use station_store::{Prepared, SourceStore, StationStore};
 
 /// A store that can try to keep a file before its deposit counts, and says where it kept one.
 pub trait StationFiles {
-    /// The files that come next are of this source.
+    /// Says that the files that come next are of this source.
     fn enter(&mut self, source: EntityId);
 
     /// Tries to keep a file under a name. The error says what hinders that for now; a deposit after it tries once more.

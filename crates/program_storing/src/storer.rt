@@ -43,8 +43,8 @@ pub struct Storer<'a, N: Names, R: Copy, S: Drop> {
 }
 
 impl<'a, N: Names, R: Wait + Copy + Clock, S: Filestore + StationFiles + Drop> Storer<'a, N, R, S> {
-    /// Stores into `store` what is left in the depot; each file is tried at once, and not again. What became of it is left there,
-    /// and the main thread woken at the desk.
+    /// Stores into `store` what is left in the depot. Each file is tried at once, and not again. What became of it is
+    /// left in the depot, and the main thread is woken at the desk.
     pub fn new(
         rt: &'a R,
         alloc: Global,
@@ -67,12 +67,12 @@ impl<'a, N: Names, R: Wait + Copy + Clock, S: Filestore + StationFiles + Drop> S
         }
     }
 
-    /// Storing a file is tried again for so many milliseconds, if what hinders it may pass.
+    /// Sets for how many milliseconds storing a file is tried again, if what hinders it may pass.
     pub fn try_for(&mut self, milliseconds: u64) {
         self.retry = milliseconds;
     }
 
-    /// Notes say where the store kept a file.
+    /// Lets notes say where the store kept a file.
     pub fn show_places(&mut self) {
         self.shows_places = true;
     }
@@ -94,7 +94,7 @@ impl<'a, N: Names, R: Wait + Copy + Clock, S: Filestore + StationFiles + Drop> S
         }
     }
 
-    // Stores a file, or puts it off where something hinders that for now.
+    // Stores a file, or puts it off if something hinders that for now.
     fn store(&mut self, pending: Pending, now: u64) -> StorerTurn {
         let Pending {
             storing,
@@ -160,7 +160,7 @@ impl<'a, N: Names, R: Wait + Copy + Clock, S: Filestore + StationFiles + Drop> S
         (self.store.calls(), self.store.failures())
     }
 
-    // Leaves what became of a file. Where its lane can't take the answer yet, it is told later.
+    // Leaves what became of a file. If its lane can't take the answer yet, the lane is told later.
     fn settle(
         &mut self,
         storing: Storing,

@@ -3,11 +3,11 @@ use crate::replies::Replies;
 use std::alloc::{AllocError, Global};
 use std::sync::atomic::{AtomicU64, Ordering};
 
-// Stands for an open link in place of the moment since when it is held.
+// An open link, in place of the moment since when it is held.
 const OPEN: u64 = 0;
 
-/// Since when the link to each remote entity is held, which one thread changes and others read; and how many replies left over
-/// it in this second.
+/// Since when the link to each remote entity is held, which one thread changes and others read. Also how many replies
+/// left over it in this second.
 #[derive(Drop)]
 pub struct Links {
     since: Vec<AtomicU64>,
@@ -64,9 +64,9 @@ impl Links {
         }
     }
 
-    /// Notes a reply of so many octets for the remote entity at this place, which is to leave at a moment of the runtime's
-    /// clock, in milliseconds; returns whether it may. In a second at most as many octets leave as the link's limit says, or a hundred
-    /// replies if it has none; the first one always leaves.
+    /// Notes a reply of so many octets for the remote entity at this place, which is to leave at a moment of the
+    /// runtime's clock, in milliseconds. Returns whether it may leave. In a second at most as many octets leave as the
+    /// link's limit says, or a hundred replies if it has none. The first one always leaves.
     pub fn may_reply(&self, place: usize, octets: u64, now: u64) -> bool {
         match self.replies.get(place) {
             Some(replies) => replies.may_leave(octets, now),

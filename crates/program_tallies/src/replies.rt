@@ -4,15 +4,15 @@ ghost use Rattle.program_tallies.specs.Replies.{after_one, used_in};
 
 use std::sync::atomic::{AtomicU64, Ordering};
 
-// How many replies leave for an entity in a second where its link has no limit.
+// How many replies leave for an entity in a second if its link has no limit.
 const MOST_REPLIES: u64 = 100;
 
 const MILLISECONDS_A_SECOND: u64 = 1_000;
 
-// A window is one number: the second, times this, and what was used up.
+// A window is one number: the second times this, plus what was used up.
 const SECOND: u64 = 1 << 32;
 
-// How often it is tried to note a reply while other threads note theirs.
+// How many times a thread tries to note a reply while others note theirs.
 const TRIES: u32 = 8;
 
 /// What left in a second.
@@ -23,8 +23,8 @@ pub struct Window {
 }
 
 impl Window {
-    /// The window once a reply of this cost left in a second; none if it may not leave, since more than the most would. The
-    /// first one of a second always leaves.
+    /// The window once a reply of this cost left in a second. `None` if it may not leave, because more than `most`
+    /// would leave. The first one of a second always leaves.
     pub fn after_one(self, second: u64, cost: u64, most: u64) -> Option<Window>
         ensures { result ≡ after_one second cost most self }
     {
@@ -50,7 +50,7 @@ impl Window {
 /// What may leave for one remote entity, as all threads see it.
 #[derive(Drop)]
 pub(crate) struct Replies {
-    /// Octets a second, or 0 if only their number is limited.
+    /// Octets a second, or 0 if only the number of replies is limited.
     limit: AtomicU64,
     window: AtomicU64,
 }
@@ -69,8 +69,8 @@ impl Replies {
         self.limit.store(octets, Ordering::Relaxed);
     }
 
-    /// Notes a reply of so many octets that is to leave at a moment of the runtime's clock, in milliseconds; returns whether it
-    /// may.
+    /// Notes a reply of so many octets that is to leave at a moment of the runtime's clock, in milliseconds. Returns
+    /// whether it may leave.
     pub(crate) fn may_leave(&self, octets: u64, now: u64) -> bool {
         let (cost, most) = match self.limit.load(Ordering::Relaxed) {
             0 => (1, MOST_REPLIES),

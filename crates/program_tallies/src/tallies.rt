@@ -50,7 +50,7 @@ impl Tallies {
         totals
     }
 
-    /// All threads note from now on when remote entities are heard.
+    /// Makes all threads note from now on when remote entities are heard.
     pub fn hear(&self) {
         self.own.hear();
         for worker in &self.workers {
@@ -58,7 +58,8 @@ impl Tallies {
         }
     }
 
-    /// When a PDU came last from the remote entity at a place of the configuration, in milliseconds since 1970, if one came.
+    /// When the last PDU came from the remote entity at a place of the configuration, in milliseconds since 1970.
+    /// `None` if none came, or none was noted.
     pub fn heard(&self, place: usize) -> Option<u64> {
         let mut last = self.own.heard(place);
         for worker in &self.workers {

@@ -123,7 +123,8 @@ impl Traffic {
         self.hears.load(Ordering::Relaxed)
     }
 
-    /// Notes that a PDU came from the remote entity at this place of the configuration, at a moment in milliseconds since 1970.
+    /// Notes that a PDU came from the remote entity at this place of the configuration, at a moment in milliseconds
+    /// since 1970.
     pub fn note_heard(&self, place: usize, at: u64) {
         if let Some(remote) = self.remotes.get(place) {
             remote.heard.store(at, Ordering::Relaxed);

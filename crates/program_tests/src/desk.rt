@@ -31,8 +31,8 @@ fn tell_end<R: Wait>(rt: &R, desk: &Desk, end: End) {
     }
 }
 
-// The letters of what the main thread gets before a line is left, and after it and two ends. No more is wanted of a
-// closed desk, and nobody waits at it.
+// The letters of what the main thread gets before a line is left, and after that line and two ends; and whether the
+// desk accepts the line, and no line once it is closed.
 fn found<R: Wait>(rt: &R, desk: &Desk, first: End, second: End) -> ([u8; 4], bool) {
     let before = letter_of(desk.take_line(rt));
     let is_left = desk.leave_line(rt, Said::Command(Command::Quit), None);

@@ -23,7 +23,7 @@ const SKIPPED: SkippedEvent<'_> = SkippedEvent {
     next: 41,
 };
 
-// Lines of events that no other test meets. What each is says its contract, and `proofs/` shows it.
+// Lines of events that no other test covers. The contract of each says what the line is, and `proofs/` shows it.
 fn push_events(alloc: Global, text: &mut String) -> Result<(), AllocError> {
     push_hold_event(alloc, text, HEAD, EntityId(7))?;
     push_release_event(alloc, text, HEAD, EntityId(7))?;

@@ -29,7 +29,7 @@ fn gives_last(kept: &KeptEvents, text: &mut Vec<u8>) -> Result<bool, AllocError>
     Ok(is_last && text.as_slice().starts_with(b"2\n3\n"))
 }
 
-// Those that matter are kept beside them, with their levels where these are asked for.
+// Those that matter are kept beside them, with their levels where these are requested.
 fn gives_notable(kept: &KeptEvents, text: &mut Vec<u8>) -> Result<bool, AllocError> {
     kept.push_last(text, b"", Level::Info, KEPT_LINES, Form::Labelled)?;
     Ok(text.as_slice() == b"{\"a\":1,\"level\":\"warning\"}\n".as_slice())

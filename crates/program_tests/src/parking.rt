@@ -7,7 +7,8 @@ fn number_of(lent: Option<Lent>) -> Option<u64> {
     Some(lent?.number)
 }
 
-// Two transactions wait for the second of two lanes. The lower number comes out first; where memory runs out, the higher one goes.
+// Two transactions wait for the second of two lanes. The lower number comes out first; where memory runs out, the
+// higher one goes.
 fn is_parked(alloc: Global) -> Result<bool, AllocError> {
     let mut parking = Parking::new(alloc, 2, 1_000)?;
     parking.park(1, 9, 100, b"late")?;

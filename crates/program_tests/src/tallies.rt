@@ -10,7 +10,8 @@ const ODD: RefusalKind = RefusalKind::Route(RouteRefusal::DecodeFault(DecodeFaul
 
 const LATE: RefusalKind = RefusalKind::Lane(Refusal::OldTransaction);
 
-// Two workers take a datagram each of a remote entity and one of nobody; the main thread sends one, and can't send two.
+// Two workers each receive a datagram of a remote entity and one of an unknown sender, and fail at a read. The main
+// thread sends one datagram, and can't send two.
 fn count(tallies: &Tallies) {
     for (place, worker) in tallies.workers.iter().enumerate() {
         worker.note_arrival(10, Some(place));
@@ -47,7 +48,7 @@ fn are_counted(tallies: &Tallies) -> bool {
         && tallies.remote_totals(2) == RemoteTotals::default()
 }
 
-// The last moment at which any thread heard a remote entity, once that is asked for.
+// The last moment at which any thread heard a remote entity, once that is requested.
 fn are_heard(tallies: &Tallies) -> bool {
     let heard_before = tallies.workers.iter().any(|worker| worker.hears());
     tallies.hear();
@@ -61,7 +62,7 @@ fn are_heard(tallies: &Tallies) -> bool {
         && tallies.heard(2).is_none()
 }
 
-// Two kinds of refusal; the first one twice, and once more after it was reported.
+// Two kinds of refusal, the first one twice.
 fn note_first<R: Wait>(rt: &R, ledger: &Ledger) {
     ledger.note(rt, ODD, 5_000, None, &[7; 100]);
     ledger.note(rt, LATE, 5_001, None, &[]);

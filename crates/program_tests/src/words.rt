@@ -21,7 +21,7 @@ fn words_of(alloc: Global, front: &str, rest: &str) -> Result<Vec<String>, Alloc
 
 const PUT: &str = "p --config c --bind 1.2.3.4:5 --user u";
 
-// Words of a put, and whether they are taken.
+// Words of a put, and whether they are accepted.
 const PUTS: [(&str, bool); 4] = [
     ("--remote 7 --class 1 s t", true),
     (
@@ -47,7 +47,7 @@ fn lines_of_puts(rt: HostRuntime) -> Result<(), Fail> {
 
 const SERVER: &str = "s --config c --bind 1.2.3.4:5 --folder f";
 
-// Options of the server, and whether they are taken.
+// Options of the server, and whether they are accepted.
 const SERVERS: [(&str, bool); 22] = [
     ("--workers 1 --rate 1000000000 --follow", true),
     ("--control=", false),

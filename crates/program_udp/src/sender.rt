@@ -14,7 +14,7 @@ use std::net::{SocketAddr, UdpSocket};
 const PDU_OCTETS: usize = 2_048;
 
 /// Sends PDUs through a socket and counts them, without allocating. A PDU that can't be sent, or whose link is held, is
-/// lost, as it may be on its way.
+/// lost, as any PDU may be on its way.
 #[derive(Drop)]
 pub struct PduSender<'a> {
     socket: &'a UdpSocket,
@@ -48,7 +48,7 @@ impl<'a> PduSender<'a> {
         place_of_address(self.peers.as_slice(), address)
     }
 
-    /// Whether the entity that a PDU says that it comes from has this address.
+    /// Whether the entity from which a PDU says it comes has this address.
     pub fn comes_from(&self, pdu: &Pdu, address: SocketAddr) -> bool {
         is_at(self.peers.as_slice(), near_end_of(pdu), address)
     }
@@ -95,16 +95,16 @@ impl<'a> PduSender<'a> {
         octets
     }
 
-    /// Sends the PDUs of a step that responds to a Prompt, at a moment by the runtime's clock. A peer may ask for them at will, so
-    /// what `Links::may_reply` doesn't allow is left out.
+    /// Sends the PDUs of a step that responds to a Prompt, at a moment by the runtime's clock. A peer may ask for them
+    /// at will, so what `Links::may_reply` doesn't allow is left out.
     pub fn send_prompted(&mut self, done: &Done, now: u64) {
         for pdu in done.pdus.as_slice() {
             self.send_as(pdu, Some(now));
         }
     }
 
-    /// Sends the PDU with which a refusal responds to a PDU of an old transaction, if there is one, at a moment by the runtime's
-    /// clock. It is left out like a response to a Prompt.
+    /// Sends the PDU with which a refusal responds to a PDU of an old transaction, if there is one, at a moment by the
+    /// runtime's clock. It is left out like a response to a Prompt.
     pub fn send_echo(&mut self, refusal: &EntityRefusal, now: u64) {
         if let EntityRefusal::Lane(refused) = refusal {
             if let Some(echo) = &refused.echo {

@@ -15,7 +15,7 @@ pub fn asks_for_check(line: &[String]) -> bool {
     has_flag(line, "--check")
 }
 
-/// Whether a command line asks that faults are explained: `--explain`, likewise.
+/// Whether a command line asks for explanations of faults: `--explain`, likewise.
 pub fn asks_to_explain(line: &[String]) -> bool {
     has_flag(line, "--explain")
 }

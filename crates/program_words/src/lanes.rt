@@ -15,7 +15,7 @@ use std::alloc::Global;
 #[derive(Clone, Copy, Debug, PartialEq, Eq)]
 pub struct PeerLanes {
     pub remote: EntityId,
-    /// 1 to `RECEIVING_LANES`, or none if the entity takes any numbers.
+    /// 1 to `RECEIVING_LANES`, or `None` if the entity takes any numbers.
     pub lanes: Option<u64>,
 }
 
@@ -41,7 +41,7 @@ fn peer_lanes_at(word: &[u8], place: usize) -> Option<PeerLanes>
     })
 }
 
-// A number of lanes, or none: `Some(None)` for the word `none`, `None` where the word is neither.
+// A number of lanes, or none: `Some(None)` for the word `none`, `None` if the word is neither.
 fn lanes_of(word: &[u8]) -> Option<Option<u64>>
     ensures { result ≡ lanes_of word.now }
 {
@@ -51,7 +51,7 @@ fn lanes_of(word: &[u8]) -> Option<Option<u64>>
     Some(Some(octets_within(word, 1, RECEIVING_LANES as u64)?))
 }
 
-/// The lanes that words write, each remote entity's once.
+/// The lanes that words write, at most once for each remote entity.
 pub(crate) fn all_lanes_of(
     alloc: Global,
     words: Option<&[&str]>,

@@ -17,16 +17,16 @@ use std::net::SocketAddrV4;
 // The seconds of a day.
 const A_DAY: u64 = 86_400;
 
-// The octets of datagrams that are kept where nothing is asked for.
+// How many octets of datagrams are kept if the command line doesn't say.
 const PARK_OCTETS: u64 = 64_000_000;
 
-// The most that can be asked for.
+// The most octets of datagrams that can be asked for.
 const MOST_PARK_OCTETS: u64 = 1_000_000_000_000;
 
-// The greatest limit that can be asked for.
+// The greatest limit that can be asked for, in octets a second.
 pub(crate) const MOST_OCTETS_A_SECOND: u64 = 1_000_000_000;
 
-/// An option with a value that has to be given.
+/// An option with a value, which has to be given.
 pub(crate) fn required<'a>(alloc: Global, name: &'static str) -> Arg<'a>
     ensures rule { rule_of result ≡ valued name.entry.now true }
     ensures local { result.global ≡ false }

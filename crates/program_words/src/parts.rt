@@ -23,7 +23,7 @@ pub(crate) struct ServerPaths<'a> {
     pub(crate) record: Option<&'a str>,
 }
 
-/// What other options with a value are given.
+/// The values of the other options.
 #[derive(Clone, Copy, Debug)]
 pub(crate) struct ServerValues {
     pub(crate) workers: u64,
@@ -51,7 +51,7 @@ pub(crate) struct ServerFlags {
     pub(crate) counters: bool,
 }
 
-/// The address and the paths; `None` if one of them can't be one.
+/// The address and the paths; `None` if one of them can't be used.
 pub(crate) fn paths_in<'a>(matches: &ArgMatches<'a>) -> Option<ServerPaths<'a>>
     ensures { IfSome result (λ paths. PathsSay (found_in (found_of matches.now)) paths) }
 {

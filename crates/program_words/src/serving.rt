@@ -35,7 +35,8 @@ pub struct ServerWords<'a> {
     pub status_socket: Option<&'a str>,
     /// The path of the file to which events are appended.
     pub log: Option<&'a str>,
-    /// The level from which on events are appended there, with their levels; all without it.
+    /// The level from which on events are appended there, with their levels. Without it all events are appended, as
+    /// they are.
     pub log_level: Option<Level>,
     /// The permissions of the files of both sockets, if they aren't their owner's alone.
     pub control_mode: Option<u32>,

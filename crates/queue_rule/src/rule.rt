@@ -4,7 +4,7 @@ use crossbeam_queue::protocol::{Join, Lesson, Outcome, Protocol, Split};
 use indications::Bundle;
 use std::marker::{Brand, PhantomData};
 
-/// The rule of a user's queue: what was taken and what is held is, for each lane, what that lane sent.
+/// The rule of a user's queue: for each lane, what was taken and then what is held is what that lane sent.
 pub struct Fair;
 
 impl Protocol<Bundle, View> for Fair {

@@ -21,7 +21,7 @@ pub type SharedQueue = RuledArrayQueue<Bundle, View, Fair>;
 /// A share in a queue, and what its holder knows about the queue. It occupies no memory.
 pub type QueuePass = Pass<Bundle, View>;
 
-/// Appends a bundle of the outlet's lane to the queue, or gives it back where the queue was full.
+/// Appends a bundle of the outlet's lane to the queue. Gives it back where the queue was full.
 pub fn send<R: Wait>(
     rt: &R,
     queue: &SharedQueue,

@@ -1,7 +1,7 @@
 use indications::Bundle;
 use std::collections::LinkedList;
 
-/// What the outlet of a lane knows. Used in contracts only; no value is made.
+/// What the outlet of a lane knows. Used only in contracts: no value is ever made.
 pub struct OutletView {
     /// The user's number.
     pub user: usize,
@@ -13,7 +13,7 @@ pub struct OutletView {
     pub sent: LinkedList<Bundle>,
 }
 
-/// What a port, the end of a queue from which its user takes, knows. Used in contracts only; no value is made.
+/// What a port, the end of a queue from which its user takes, knows. Used only in contracts: no value is ever made.
 pub struct PortView {
     /// The user's number.
     pub user: usize,
@@ -25,7 +25,7 @@ pub struct PortView {
     pub known: LinkedList<Option<LinkedList<Bundle>>>,
 }
 
-/// What the holder of a pass knows about the queue. Used in contracts only; no value is made.
+/// What the holder of a pass knows about the queue. Used only in contracts: no value is ever made.
 pub enum View {
     /// The first pass, from which no port was made yet.
     Origin,

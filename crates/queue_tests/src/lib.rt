@@ -1,5 +1,5 @@
-//! Users' queues of both kinds, one-thread and shared: both answer offers and takes alike, and every bundle that a lane
-//! sends arrives.
+//! Users' queues of both kinds, one-thread and shared: both give the same results for offers and takes, and every
+//! bundle that a lane sends arrives.
 #![tactic(auto)]
 
 #[cfg(test)]

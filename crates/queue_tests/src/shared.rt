@@ -28,7 +28,7 @@ fn pause<R: Wait>(rt: &R) {
     Parker::new().park_timeout(rt, Duration::from_micros(50));
 }
 
-// Offers a bundle until it is taken, and notes when the queue was full; answers whether it was taken.
+// Offers a bundle until it is taken, and notes when the queue was full. Returns whether the bundle was taken.
 fn offer<R: Wait + Copy>(
     rt: &R,
     outlet: &mut LaneOutlet<R>,
@@ -52,7 +52,7 @@ fn offer<R: Wait + Copy>(
     false
 }
 
-// Sends all bundles of a lane; answers whether all were taken.
+// Sends all bundles of a lane, and returns whether all were taken.
 fn produce<R: Wait + Copy>(
     rt: &R,
     alloc: Global,
@@ -71,7 +71,7 @@ fn produce<R: Wait + Copy>(
     Ok(true)
 }
 
-// Whether a bundle is the next one of its lane, whose last number it then is.
+// Counts a bundle of its lane, and returns whether it is the lane's next one.
 fn comes_next(alloc: Global, last: &mut [u64], bundle: &Bundle) -> Result<bool, AllocError> {
     let Some(last) = last.get_mut(bundle.lane) else {
         return Ok(false);
@@ -83,8 +83,8 @@ fn comes_next(alloc: Global, last: &mut [u64], bundle: &Bundle) -> Result<bool, 
     Ok(are_alike(bundle, &bundle_of(alloc, bundle.lane, *last)?))
 }
 
-// Takes bundles until all of each lane have come; answers whether each lane's came in order. `last` has the last number
-// of each lane. A slow user waits after each bundle.
+// Takes bundles until all of each lane have come, and returns whether each lane's came in order. `last` has the last
+// number of each lane. A slow user waits after each bundle.
 fn consume<R: Wait>(
     rt: &R,
     alloc: Global,
@@ -195,7 +195,7 @@ fn are_given_back<R: Wait + Copy>(rt: &R, ends: TwoEnds<R>) -> bool
     port.is_complete() && port.take(rt).is_none()
 }
 
-// Has all lanes send, each in a thread of its own; answers whether all bundles were taken.
+// Has all lanes send, each in a thread of its own, and returns whether all bundles were taken.
 fn produce_all<R: Threads + Wait + Copy + Send + Sync>(
     rt: &R,
     alloc: Global,
@@ -223,7 +223,7 @@ fn produce_all<R: Threads + Wait + Copy + Send + Sync>(
     Ok(true)
 }
 
-// Waits until a lane has met a full queue; answers whether one did.
+// Waits until a lane has met a full queue, and returns whether one did.
 fn waits_until<R: Wait>(rt: &R, was_full: &AtomicBool) -> bool {
     for _ in 0..TURNS {
         if was_full.load(Ordering::SeqCst) {
@@ -234,7 +234,7 @@ fn waits_until<R: Wait>(rt: &R, was_full: &AtomicBool) -> bool {
     false
 }
 
-// Has lanes send to a queue with room for four bundles; answers whether all bundles come, those of each lane in order,
+// Has lanes send to a queue with room for four bundles. Returns whether all bundles come, those of each lane in order,
 // and no others. A slow user takes nothing before a lane has met a full queue.
 fn all_come<R: Threads + Wait + Copy + Send + Sync>(
     rt: R,

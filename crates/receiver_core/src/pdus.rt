@@ -63,7 +63,7 @@ impl ReceiverCore {
         Pdu::finished(self.reply_header(), finished)
     }
 
-    // Whether the Metadata is there after a change.
+    // Whether there is Metadata after a change.
     fn has_metadata_after(&self, change: &FileChange) -> bool
         ensures { result ≡ is_some (metadata_after self.now.metadata change.now) }
     {
@@ -142,8 +142,8 @@ impl ReceiverCore {
         }
     }
 
-    /// The PDUs to send for a response; `current` is the control block with the event, and `ended` gives the transaction
-    /// status in an ACK.
+    /// The PDUs to send for a response. `current` is the control block with the event, and `ended` gives the
+    /// transaction status in an ACK.
     pub(crate) fn pdus_of(
         &self,
         response: &Response,

@@ -9,8 +9,8 @@ pub(crate) struct Step {
     pub(crate) change: FileChange,
 }
 
-/// An event that is accepted, with its answer and all the memory that it needs. A plan can be carried out in the
-/// state that it was made in. It is passed on often, so what it changes is boxed.
+/// An accepted event, with its answer and all the memory that it needs. A plan can be carried out in the state that it
+/// was made in. Plans are passed on often, so what one changes is boxed.
 #[derive(Drop)]
 pub struct Plan {
     pub(crate) step: Box<Step>,

@@ -135,8 +135,8 @@ impl ReceiverCore {
         })
     }
 
-    // The plan of an accepted event and its change, for which there is room already. What changes goes into the spare
-    // memory, if there is some.
+    // The plan of an accepted event and its change, for which there is already room. What changes goes into the spare
+    // memory, if there is any.
     fn plan_change(
         &self,
         event: &What,

@@ -14,7 +14,7 @@ impl ReceiverCore {
     ghost use Rattle.receiver_table.specs.Refusals.{is_stale_store, is_pdu_misplaced, is_misplaced, is_full, refusal_at};
     ghost use Rattle.txn_events.specs.Events.{needs_room};
 
-    // Whether the file store answers another deposit than the one that is waiting, or none is waiting.
+    // Whether the file store answers a deposit other than the waiting one, or none is waiting.
     fn is_stale_store(&self, event: &What) -> bool
         ensures { result ≡ is_stale_store (shown self.now) event.now }
     {

@@ -20,7 +20,7 @@ pub struct Piece {
     pub octets: Octets,
 }
 
-/// Pieces of one segment, most often one, which then takes no memory of its own.
+/// Pieces of one segment. A single piece, the usual case, takes no memory of its own.
 pub type Pieces = SmallVec<Piece, 1>;
 
 // The octets of a segment at the offsets of a run.
@@ -137,7 +137,7 @@ pub fn put_pieces(kept: &mut Vec<u8>, pieces: &[Piece]) -> Result<(), AllocError
     Ok(())
 }
 
-/// Cuts a vector to a size, or lengthens it by 0.
+/// Cuts a vector to a size, or lengthens it to that size with zeros.
 pub fn resize(kept: &mut Vec<u8>, size: usize) -> Result<(), AllocError>
     ensures same { OnOk result ((i : ℕ) → i < size → slice_index kept.new.items i ≡ slice_index kept.old.items i) }
     ensures len { OnOk result (vec_len kept.new ≡ size) }

@@ -10,7 +10,7 @@ use modular_sum::Running;
 use pdu_values::FileData;
 use std::alloc::{AllocError, Global};
 
-/// The received octets of a file, of each offset the one received first.
+/// The received octets of a file: for each offset, the one received first.
 #[derive(Drop)]
 pub struct ReceivedFile {
     /// The octets, in the order in which they came. No two pieces share an offset.
@@ -117,7 +117,7 @@ impl ReceivedFile {
         Ok(octets)
     }
 
-    // Makes room for so many more pieces.
+    // Makes room for `count` more pieces.
     fn reserve_pieces(&mut self, count: usize) -> Result<(), AllocError>
         ensures received { (i : ℕ) → received_of self.new i ≡ received_of self.old i }
         ensures gaps { self.new.gaps ≡ self.old.gaps }
@@ -138,7 +138,7 @@ impl ReceivedFile {
         self.gaps.reserve(1)
     }
 
-    /// Makes room for so many more pieces, and for one more run of offsets.
+    /// Makes room for `count` more pieces, and for one more run of offsets.
     pub fn make_room(&mut self, count: usize) -> Result<(), AllocError>
         ensures received { (i : ℕ) → received_of self.new i ≡ received_of self.old i }
         ensures gaps { (i : ℕ) → covered self.new.gaps i ≡ covered self.old.gaps i }

@@ -87,7 +87,7 @@ fn waiting_after(waiting: Option<u32>, event: &What, deposit: Option<Deposit>) -
     }
 }
 
-// The counts after an event that is no expiration.
+// The counts after an event that is not an expiration; `more` is as in `tries_after`.
 fn unexpired(tries: Tries, resumed: bool, more: bool) -> Tries
     ensures { (kind : TimerKind) → tries_of result kind
         ≡ (if resumed || is_reset (record { ack = false; nak = more }) kind then 0 else tries_of tries kind) }
@@ -113,7 +113,7 @@ fn tries_after(tries: Tries, event: &What, inds: &[Indication], more: bool) -> T
     }
 }
 
-// Which counts begin again, where more of the file was received or not.
+// Which counts begin again: Nak's where `more` of the file was received.
 fn resets(more: bool) -> CountResets
     ensures { result ≡ record { ack = false; nak = more } }
 {
@@ -147,8 +147,8 @@ pub fn with_event(control: &ControlBlock, event: &What, more: bool) -> ControlBl
     }
 }
 
-/// Makes `current`, the control block with an event, the one after the event is answered with a response and a deposit.
-/// The timers are left to the caller. `control` is the control block before the event.
+/// Turns `current`, the control block with an event, into the one after the event is answered with a response and a
+/// deposit. Leaves the timers to the caller. `control` is the control block before the event.
 pub fn settle(
     current: &mut ControlBlock,
     control: &ControlBlock,

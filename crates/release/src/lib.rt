@@ -1,4 +1,4 @@
-//! Which release of Binesunset the programs are.
+//! The release of Binesunset that the programs belong to.
 #![tactic(auto)]
 
 /// The version between two literals, as one text.

@@ -6,8 +6,8 @@ use hex::FromHexError;
 use pdu_words::condition_words;
 use std::alloc::{AllocError, Global};
 
-/// Adds a line of comment for each thing that a line of a script and its answer say: the PDU that came, and those that
-/// go out; a new transaction, a file to be stored, the condition of an indication, why something was refused.
+/// Adds a comment line for each thing that a line of a script and its answer say: the PDU that was received, and those
+/// that are sent; a new transaction, a file to be stored, the condition of an indication, why something was refused.
 pub fn push_comments(
     alloc: Global,
     text: &mut String,

@@ -3,7 +3,7 @@ use pdu_codec::{DecodeFault, decode};
 use pdu_words::{push_pdu_words, push_transaction_words, push_way_words};
 use std::alloc::{AllocError, Global};
 
-/// Adds what a datagram says: a line for its header and one for its body, or one for the fault of decoding it. Answers
+/// Adds what a datagram says: a line for its header and one for its body, or one for the fault of decoding it. Returns
 /// whether it is a PDU.
 pub fn push_datagram(alloc: Global, text: &mut String, octets: &[u8]) -> Result<bool, AllocError> {
     match decode(alloc, octets) {
@@ -26,7 +26,7 @@ pub fn push_datagram(alloc: Global, text: &mut String, octets: &[u8]) -> Result<
     }
 }
 
-/// Adds a line of comment for what a datagram says, or why it is no PDU.
+/// Adds a line of comment for what a datagram says, or why it is not a PDU.
 pub(crate) fn push_pdu_comment(
     alloc: Global,
     text: &mut String,

@@ -1,4 +1,4 @@
-//! Plays a script, and says in words what its lines and their answers say.
+//! Plays a script, and explains its lines and their answers in words.
 #![tactic(auto)]
 
 mod comments;

@@ -1,6 +1,7 @@
 //! What each refusal means, in words.
 
-/// What the refusal with this name means. None for octets that are no PDU: the comment on their line says what they lack.
+/// What the refusal with this name means. None for octets that are not a PDU: the comment on their line says what they
+/// lack.
 pub(crate) fn refusal_words(name: &str) -> Option<&'static str> {
     let words = match name {
         "NoTransaction" => "no transaction with this number was opened here",

@@ -17,7 +17,7 @@ struct Scratch {
 
 /// Plays the reader's script in a session, and writes below each line's answer what both say in words. Without the
 /// lines that begin with a hash and a space, the output is what [`script_replay::play_to_end`] writes. Reports how the
-/// run ended likewise, and answers the exit status.
+/// run ended in the same way, and returns the exit status.
 pub fn explain_to_end<R: Read, W: Write, E: Write>(
     alloc: Global,
     session: Session,
@@ -68,7 +68,7 @@ fn play_script<R: Read, W: Write>(
     ends(&mut blocks, &mut scratch.line)
 }
 
-// A script has at most `LINES` lines.
+// Returns an error if a line follows the last one that a script may have.
 fn ends<B: BufRead>(reader: &mut B, line: &mut Vec<u8>) -> Result<(), ReplayFault> {
     match next_line(reader, line)? {
         NextLine::End => Ok(()),
@@ -76,7 +76,7 @@ fn ends<B: BufRead>(reader: &mut B, line: &mut Vec<u8>) -> Result<(), ReplayFaul
     }
 }
 
-// Plays a line, and writes its answer and the comments; answers whether the script may have that line here.
+// Plays a line, and writes its answer and the comments. Returns whether the script may have that line here.
 fn turn<W: Write>(
     alloc: Global,
     session: &mut Session,

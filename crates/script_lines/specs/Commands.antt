@@ -208,7 +208,7 @@ put_at config gathered user lane operands = do
   put ← put_words gathered operands
   Some (command.Event (events.Request of_user (requests.Put of_lane put)))
 
--- put USER LANE CLASS DEST SRC DST FILE, with `closure` if that is wanted
+-- put USER LANE CLASS DEST SRC DST FILE, with `closure` if that is requested
 abbrev pub put_of : ConfigValue → Option (List ℕ) → List (List ℕ) → Option Command
 put_of config gathered (user ∷ lane ∷ operands) = put_at config gathered user lane operands
 put_of config gathered operands = None
@@ -240,7 +240,7 @@ abbrev pub command_of_words : ConfigValue → Option (List ℕ) → List (List �
 command_of_words config gathered [] = None
 command_of_words config gathered (kind ∷ operands) = command_by config gathered kind operands
 
--- a line of a script, or nothing for a bad line, by the configuration and the octets that lines before it have gathered;
+-- a line of a script, or nothing for a bad line, by the configuration and the octets that earlier lines have gathered;
 -- empty lines and lines that begin with `#` are comments
 abbrev pub command_of : ConfigValue → Option (List ℕ) → List ℕ → Option Command
 command_of config gathered [] = Some command.Nothing

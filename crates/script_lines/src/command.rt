@@ -29,8 +29,8 @@ pub enum Command {
     Nothing,
 }
 
-/// Parses a line of a script by the users and lanes of a configuration, and the octets that lines before it have
-/// gathered; `None` for a bad line.
+/// Parses a line of a script, given the users and lanes of a configuration and the octets that earlier lines have
+/// gathered. Returns `None` for a bad line.
 pub fn command_of(
     alloc: Global,
     config: &Config,

@@ -39,7 +39,7 @@ impl Gathered {
         }
     }
 
-    /// Adds octets behind the others; answers whether the script gathers any.
+    /// Appends octets, and returns whether the script gathers any.
     pub fn add(&mut self, octets: &[u8]) -> Result<bool, AllocError>
         ensures gathers { IfOk result (λ gathers. gathers ≡ is_some self.old) }
         ensures added { OnOk result (self.new ≡ option_map (λ front. front ++ octets.now) self.old) }
@@ -53,7 +53,7 @@ impl Gathered {
         }
     }
 
-    /// Gives up the octets, which their put has used.
+    /// Drops the octets, once their put has used them.
     pub fn clear(&mut self)
         ensures { self.new ≡ option_map (λ front. []) self.old }
     {
@@ -62,7 +62,7 @@ impl Gathered {
         }
     }
 
-    /// A copy of the octets, in memory of their own.
+    /// A copy of the octets, in its own memory.
     pub(crate) fn copy(&self, alloc: Global) -> Result<Option<Octets>, AllocError>
         ensures { IfOk result (λ file. file ≡ self.now) }
     {

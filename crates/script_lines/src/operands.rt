@@ -14,7 +14,7 @@ pub(crate) fn stamp_of(word: &[u8]) -> Option<u32>
     Some(decimal(word, u64::from(u32::MAX))? as u32)
 }
 
-/// The octets that a word writes in hex, one octet or more.
+/// The octets that a word spells in hex, one octet or more.
 pub(crate) fn octets_of(alloc: Global, word: &[u8]) -> Result<Option<Octets>, AllocError>
     ensures { IfOk result (λ octets. octets ≡ octets_of word.now) }
 {

@@ -75,8 +75,8 @@ pub record Replays (start : Session) (ended : Result ⊤ ReplayFault) (lines : L
   pub plays : PlaysUntil start ended lines text
   pub written : Writes ended old new text
 
--- a run that began with this session has ended with this exit status; its output and the report of its end were appended to
--- the answers and the errors
+-- a run that began with this session has ended with this exit status; its output and the report of its end were
+-- appended to the answers and the errors
 pub record EndsRun (start : Session) (status : ℕ) (lines : List (List ℕ)) (old new old_errors new_errors : Option (List ℕ)) : Type 0 where
   pub ended : Result ⊤ ReplayFault
   pub status_is : status ≡ (if is_ok ended then 0 else 1)

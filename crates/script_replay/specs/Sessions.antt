@@ -51,14 +51,14 @@ pub record IsSet (session : Session) (setting : Setting) (after : Session) (text
 
 -- ---- files in pieces
 
--- octets are gathered behind the others, and nothing is printed
+-- octets are appended to those that were gathered, and nothing is printed
 pub record IsGathered (session : Session) (octets : List ℕ) (after : Session) (text : List ℕ) : Type 0 where
   pub front : List ℕ
   pub gathers : session.gathered ≡ Some front
   pub after_is : after ≡ record session { gathered = Some (front ++ octets) }
   pub silent : text ≡ []
 
--- what is gathered for the next put, behind an event: nothing yet behind a put, which has used it up
+-- what is gathered for the next put, after an event: nothing yet after a put, which has used it up
 abbrev pub left_by : Bool → Option (List ℕ) → Option (List ℕ)
 left_by true gathered = option_map (λ front. []) gathered
 left_by false gathered = gathered
@@ -70,7 +70,7 @@ abbrev pub is_put : WorldEvent → Bool
 is_put (events.Request user (requests.Put lane put)) = true
 is_put event = false
 
--- the entity receives an event, takes or refuses it, and the answer is printed
+-- the entity receives an event, accepts or refuses it, and the answer is printed
 pub record IsTold (session : Session) (event : WorldEvent) (after : Session) (text : List ℕ) : Type 0 where
   pub may : MayCome session.config event
   pub result : Result Done EntityRefusal
@@ -113,8 +113,8 @@ Answers session (command.Take user) after text = IsTakenBy session user after te
 abbrev pub IsBadSetting : Session → Setting → Type 0
 IsBadSetting session setting = (session.may_set ≡ false) ⊎ IsErr (with_setting setting session.config)
 
--- a line is bad there: it can't be parsed, makes no setting, gathers octets where none are gathered, or names a user or a
--- lane that the entity does not have
+-- a line is bad there: it can't be parsed, makes no setting, gathers octets where none are gathered, or names a user or
+-- a lane that the entity does not have
 abbrev pub IsBadFor : Session → Option Command → Type 0
 IsBadFor session None = Unit {0}
 IsBadFor session (Some command.Nothing) = ⊥

@@ -9,7 +9,7 @@ use lane_table::Done;
 use std::alloc::{AllocError, Global};
 use world_core::{EntityRefusal, RouteRefusal};
 
-/// Appends the lines for an event that was taken or refused; for a Put, also the line of the transaction that it
+/// Appends the lines for an event that was accepted or refused; for a Put, also the line of the transaction that it
 /// opened.
 pub fn push_answer(
     alloc: Global,

@@ -10,8 +10,8 @@ use script_io::conclude;
 use std::alloc::Global;
 use std::io::{Read, Write};
 
-/// Runs the reader's script, which begins with the reference configuration, and writes its output at this pace. Reports a
-/// bad line in the output, and any other fault to `errors`. Answers the exit status.
+/// Runs the reader's script, which begins with the reference configuration, and writes its output at this pace. Reports
+/// a bad line in the output, and any other fault to `errors`. Returns the exit status.
 pub fn play_to_end<R: Read, W: Write, E: Write>(
     alloc: Global,
     reader: &mut R,

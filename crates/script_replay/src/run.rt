@@ -21,7 +21,7 @@ pub const LINES: u32 = 1_000_000;
 /// When answers are written.
 #[derive(Clone, Copy, Debug, PartialEq, Eq)]
 pub enum AnswerPace {
-    /// By blocks: an answer may be written later than the line after it is read.
+    /// In blocks: an answer may be written later than the line after it is read.
     ByBlocks,
     /// Each before the next line is read, for a person at a terminal.
     ByLines,
@@ -35,7 +35,7 @@ struct Scratch {
     text: String,
 }
 
-/// Runs the reader's script through an entity, line by line, and writes the answers by blocks. It also reads by blocks:
+/// Runs the reader's script through an entity, line by line, and writes the answers in blocks. It also reads in blocks:
 /// if the run ends before the script does, the reader is ahead of the last line played. The script begins with the
 /// reference configuration.
 pub fn replay<R: Read, W: Write>(
@@ -155,7 +155,7 @@ fn hand_on<W: Write>(
     }
 }
 
-// A script has at most `LINES` lines.
+// Returns an error if a line follows the last one that a script may have.
 fn ends<B: BufRead>(reader: &mut B, line: &mut Vec<u8>) -> Result<(), ReplayFault>
     ensures { (start : Played) (lines : List (List ℕ)) (session : Session) (old new : Option (List ℕ)) (buffer : List ℕ)
         → Ran start lines (B.remaining reader.old) LINES session old new buffer
@@ -168,7 +168,7 @@ fn ends<B: BufRead>(reader: &mut B, line: &mut Vec<u8>) -> Result<(), ReplayFaul
     }
 }
 
-// Plays the next line; answers whether there was one.
+// Plays the next line, and returns whether there was one.
 fn turn<B: BufRead, W: Write>(
     session: &mut Session,
     scratch: &mut Scratch,

@@ -51,7 +51,7 @@ impl Session {
         }
     }
 
-    /// Plays a line and replaces the content of `text` with its answer. Answers whether the script may have that line
+    /// Plays a line and replaces the content of `text` with its answer. Returns whether the script may have that line
     /// here.
     pub fn play(
         &mut self,
@@ -69,7 +69,7 @@ impl Session {
         }
     }
 
-    // What a line says here.
+    // The command of a line here; None for a bad line.
     fn said(&self, alloc: Global, line: &[u8]) -> Result<Option<Command>, AllocError>
         ensures { (played : Played) → Stands self.now played
             → IfOk result (λ command. command ≡ command_of played.config played.gathered line.now) }
@@ -101,7 +101,7 @@ impl Session {
         }
     }
 
-    // Gathers octets for the next put, if the script gathers any; answers whether it does.
+    // Gathers octets for the next put, if the script gathers any, and returns whether it does.
     fn gather(&mut self, octets: &Octets) -> Result<bool, AllocError>
         ensures { (played : Played) (text : List ℕ) → Stands self.old played
             → IfOk result (λ good. ObeysTo good played (command.File octets.now) self.new text text) }
@@ -129,7 +129,7 @@ impl Session {
 }
 
 impl Stage {
-    // Changes the configuration, if it may still be changed; answers whether it did.
+    // Changes the configuration, if it may still be changed. Returns whether it did.
     fn set(&mut self, setting: Setting) -> bool
         ensures { (played : Played) → StandsAt self.old played → SetsTo result played setting self.new }
     {

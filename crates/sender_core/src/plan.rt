@@ -13,8 +13,8 @@ pub(crate) enum Remainder {
     Requested(NakRequests),
 }
 
-/// An event that is accepted, with its answer and all the memory that it needs. A plan can be carried out in the
-/// state that it was made in.
+/// An accepted event, with its answer and all the memory that it needs. A plan can be carried out in the state that it
+/// was made in.
 #[derive(Drop)]
 pub struct Plan {
     pub(crate) next: ControlBlock,

@@ -30,7 +30,7 @@ no_memory_line = refusal_text (refusal_number NoMemory) (refusal_name NoMemory)
 abbrev pub too_large_line : List ℕ
 too_large_line = refusal_text (refusal_number TooLarge) (refusal_name TooLarge)
 
--- the answer to a line that is no command
+-- the reply to a line that isn't a command
 abbrev pub bad_command_line : List ℕ
 bad_command_line = codes "bad command\n"
 

@@ -10,7 +10,8 @@ use shared_entity::{EntityRefusal, Traced};
 use std::alloc::{AllocError, Global};
 use txn_events::Refusal;
 
-/// Adds the lines for an event that a transaction took, a Put or another, with the file that it handed to the store, if it did.
+/// Adds the lines for an event that a transaction took, a Put or another, with the file that it handed to the store, if
+/// it did.
 pub fn push_taken(
     text: &mut String,
     is_put: bool,

@@ -54,7 +54,7 @@ pub struct Server<'a, N: Names, R: Files + AllocGlobal + Copy + Drop> {
     pub held: Option<OutboxFolder<R>>,
     /// The links open for a time.
     pub windows: Windows,
-    /// What the outbox began, and whether all transactions are abandoned whose journals are full, and not only those.
+    /// What the outbox began, and whether all transactions whose journals are full are abandoned, and not only those.
     pub begun: Begun,
     pub abandons_full: bool,
     /// Whether commands are reported.
@@ -75,14 +75,15 @@ pub struct Server<'a, N: Names, R: Files + AllocGlobal + Copy + Drop> {
 #[derive(Clone, Copy, Debug, PartialEq, Eq)]
 pub enum Next {
     GoesOn,
-    /// The client that asked follows from then on, after the last events, so many at most; from a level on, if one is asked for.
+    /// The client that asked follows from then on, after the last events, so many at most; from a level on, if one is
+    /// asked for.
     Follows(Asker, u64, Option<Level>),
     /// The reply comes later.
     Later,
     Quits,
 }
 
-// After a reply the server goes on.
+// Says that the server goes on after a reply.
 fn goes_on(written: Result<(), AllocError>) -> Result<Next, AllocError> {
     written?;
     Ok(Next::GoesOn)
@@ -110,7 +111,7 @@ fn given_up_by(request: &Request) -> Option<TxnKey> {
     }
 }
 
-/// Where a Put comes from that a client didn't give: its number in the outbox, and its source file name, if that is another
+/// Where a Put that no client gave comes from: its number in the outbox, and its source file name, if that is another
 /// than its path.
 #[derive(Drop)]
 pub(crate) struct FromOutbox {
@@ -292,7 +293,7 @@ impl<'a, N: Names, R: Wait + Clock + Files + AllocGlobal + Copy + Drop> Server<'
         self.count_put(put, key, size);
     }
 
-    // Asks the entity for something, in a user's name. Nothing stays parked of a transaction that is given up.
+    // Asks the entity for something, in a user's name. Drops what is parked of a transaction that is given up.
     fn ask_for(&mut self, user: usize, request: Request) -> Outcome {
         let given_up = given_up_by(&request);
         let outcome = self.ask(user, request);
@@ -318,7 +319,7 @@ impl<'a, N: Names, R: Wait + Clock + Files + AllocGlobal + Copy + Drop> Server<'
         Err(Declined::Refused(refusal))
     }
 
-    // Carries out what a step gives that the entity took. A Put has a destination.
+    // Carries out the step of a request that the entity took. A Put has a destination.
     fn go_on(&mut self, done: Done, destination: Option<EntityId>) -> Taken {
         let (key, deposit) = (done.key, done.deposit);
         if let Some(destination) = destination {
@@ -332,7 +333,7 @@ impl<'a, N: Names, R: Wait + Clock + Files + AllocGlobal + Copy + Drop> Server<'
         }
     }
 
-    // Notes what the entity refused, and sends the PDU with which the refusal answers, if there is one.
+    // Notes what the entity refused, and sends the PDU with which the refusal responds, if there is one.
     fn note_refusal(&mut self, refusal: &EntityRefusal) {
         let at = wall_moment(self.rt);
         self.tallies

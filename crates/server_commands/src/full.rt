@@ -11,8 +11,8 @@ use std::time::Clock;
 const FULL: usize = 16;
 
 impl<'a, N: Names, R: Wait + Clock + Files + AllocGlobal + Copy + Drop> Server<'a, N, R> {
-    /// Abandons transactions whose journals are full: those that the outbox began, and all of them if that is wanted. If
-    /// memory or room in the user's queue runs out, that is tried again.
+    /// Abandons transactions whose journals are full: those that the outbox began, and all of them if that is wanted.
+    /// If memory or room in the user's queue runs out, that is tried again.
     pub(crate) fn abandon_full(&mut self) {
         for _ in 0..FULL {
             let Some(key) = self.station.take_full() else {
@@ -33,7 +33,8 @@ impl<'a, N: Names, R: Wait + Clock + Files + AllocGlobal + Copy + Drop> Server<'
         }
     }
 
-    // Abandons a transaction whose journal is full, and reports it; false if memory or room in the user's queue ran out.
+    // Abandons a transaction whose journal is full, and reports it; false if memory or room in the user's queue ran
+    // out.
     fn abandon_one(&mut self, user: usize, key: TxnKey) -> bool {
         match self.ask_quietly(user, Request::Abandon(key)) {
             Ok(_) => {

@@ -1,4 +1,5 @@
-//! What changes in the server while it runs: which links are held, how much leaves over them, and which file the log is.
+//! What changes in the server while it runs: which links are held, how much leaves over them, and which file the log
+//! is.
 use crate::commands::Server;
 use cfdp_types::EntityId;
 use program_desk::{moment, wall_moment};
@@ -11,7 +12,7 @@ use std::rt::Files;
 use std::sync::Wait;
 use std::time::Clock;
 
-// The reply where the configuration has no entity with an ID.
+// The reply if the configuration has no entity with the ID that a command names.
 const UNKNOWN: &str = "refused UnknownRemote\n";
 
 impl<'a, N: Names, R: Wait + Clock + Files + AllocGlobal + Copy + Drop> Server<'a, N, R> {
@@ -27,7 +28,7 @@ impl<'a, N: Names, R: Wait + Clock + Files + AllocGlobal + Copy + Drop> Server<'
         }
     }
 
-    // The log is opened anew.
+    // Opens the log anew.
     fn reopen_log(&mut self, text: &mut String) -> Result<(), AllocError> {
         match self.audience.reports.reopen_log() {
             Some(true) => text.push_str("ok\n"),
@@ -36,7 +37,8 @@ impl<'a, N: Names, R: Wait + Clock + Files + AllocGlobal + Copy + Drop> Server<'
         }
     }
 
-    // At most so many octets a second leave from now on for a remote entity, or for those without a limit of their own.
+    // Lets at most so many octets a second leave from now on for a remote entity, or for those without a limit of their
+    // own. `None` lifts the limit.
     fn limit(
         &mut self,
         remote: Option<EntityId>,
@@ -55,7 +57,7 @@ impl<'a, N: Names, R: Wait + Clock + Files + AllocGlobal + Copy + Drop> Server<'
         text.push_str("ok\n")
     }
 
-    /// Nothing leaves for a remote entity from now on.
+    /// Holds the link to a remote entity: nothing leaves for it from now on.
     pub(crate) fn hold(&mut self, remote: EntityId, text: &mut String) -> Result<(), AllocError> {
         if !self.close_link(remote) {
             return text.push_str(UNKNOWN);
@@ -63,7 +65,7 @@ impl<'a, N: Names, R: Wait + Clock + Files + AllocGlobal + Copy + Drop> Server<'
         text.push_str("ok\n")
     }
 
-    /// The link to a remote entity is open again.
+    /// Opens the link to a remote entity again.
     pub(crate) fn release(
         &mut self,
         remote: EntityId,
@@ -76,7 +78,7 @@ impl<'a, N: Names, R: Wait + Clock + Files + AllocGlobal + Copy + Drop> Server<'
         text.push_str("ok\n")
     }
 
-    // Nothing leaves for any remote entity from now on.
+    // Holds the links to all remote entities: nothing leaves for any of them from now on.
     fn hold_all(&mut self, text: &mut String) -> Result<(), AllocError> {
         let config = self.station.entity().config();
         for place in 0..config.remotes() {
@@ -87,7 +89,7 @@ impl<'a, N: Names, R: Wait + Clock + Files + AllocGlobal + Copy + Drop> Server<'
         text.push_str("ok\n")
     }
 
-    // The links to all remote entities are open again.
+    // Opens the links to all remote entities again.
     fn release_all(&mut self, text: &mut String) -> Result<(), AllocError> {
         let config = self.station.entity().config();
         for place in 0..config.remotes() {
@@ -99,7 +101,7 @@ impl<'a, N: Names, R: Wait + Clock + Files + AllocGlobal + Copy + Drop> Server<'
         text.push_str("ok\n")
     }
 
-    // The link to a remote entity is open for so many seconds, and then held.
+    // Opens the link to a remote entity for so many seconds. Then it is held.
     fn release_for(
         &mut self,
         remote: EntityId,
@@ -117,7 +119,7 @@ impl<'a, N: Names, R: Wait + Clock + Files + AllocGlobal + Copy + Drop> Server<'
         text.push_str("ok\n")
     }
 
-    /// Holds the links that were open for a time that is over at a moment.
+    /// Holds the links that were open only for a time, if that is over at a moment.
     pub(crate) fn end_windows(&mut self, now: u64) {
         let remotes = self.station.entity().config().remotes();
         for _ in 0..remotes {
@@ -132,7 +134,7 @@ impl<'a, N: Names, R: Wait + Clock + Files + AllocGlobal + Copy + Drop> Server<'
         }
     }
 
-    // Holds a link, and reports it if it was open; whether the configuration has the entity.
+    // Holds a link, and reports that if it was open. Returns whether the configuration has the entity.
     fn close_link(&mut self, remote: EntityId) -> bool {
         let was_held = self.station.is_held(remote);
         let at = wall_moment(self.rt);
@@ -146,7 +148,7 @@ impl<'a, N: Names, R: Wait + Clock + Files + AllocGlobal + Copy + Drop> Server<'
         true
     }
 
-    // Opens a link again, and reports it if it was held; whether the configuration has the entity.
+    // Opens a link again, and reports that if it was held. Returns whether the configuration has the entity.
     fn open_link(&mut self, remote: EntityId) -> bool {
         let was_held = self.station.is_held(remote);
         let now = moment(self.rt);

@@ -20,7 +20,7 @@ use std::sync::Wait;
 use std::time::Clock;
 
 impl<'a, N: Names, R: Wait + Clock + Files + AllocGlobal + Copy + Drop> Server<'a, N, R> {
-    /// A file waits from now on.
+    /// Puts a file in the outbox, and adds the reply.
     pub(crate) fn queue(&mut self, send: SendCommand, text: &mut String) -> Result<(), AllocError> {
         match self.queue_file(send) {
             Ok(number) => writeln!(text, "queued {number}"),
@@ -30,7 +30,7 @@ impl<'a, N: Names, R: Wait + Clock + Files + AllocGlobal + Copy + Drop> Server<'
         }
     }
 
-    // Puts a file in the outbox, and in its file, where there is one.
+    // Puts a file in the outbox, and in its file, if there is one. Returns the file's number.
     fn queue_file(&mut self, send: SendCommand) -> Result<u64, HeldFault> {
         let (user, now, since) = (send.user, moment(self.rt), wall_moment(self.rt));
         if self.held.is_none() {
@@ -50,7 +50,7 @@ impl<'a, N: Names, R: Wait + Clock + Files + AllocGlobal + Copy + Drop> Server<'
         }
     }
 
-    /// A file waits from now on whose size was looked at, unless it can't be sent.
+    /// Puts a file whose size was looked at in the outbox, unless it can't be sent, and adds the reply.
     pub(crate) fn queue_known(
         &mut self,
         send: SendCommand,
@@ -96,8 +96,8 @@ impl<'a, N: Names, R: Wait + Clock + Files + AllocGlobal + Copy + Drop> Server<'
         }
     }
 
-    /// Puts the file of the outbox that was read, or has that read whose turn it is, if a lane of its user can take it, or else
-    /// uses up numbers that lag; whether it did any of these.
+    /// Puts the file of the outbox that was read. If none is being read, uses up numbers that lag, and begins to read
+    /// the file whose turn it is, if a lane of its user can take it. Returns whether it did any of these.
     pub(crate) fn start_queued(&mut self, now: u64) -> bool {
         if self.station.take_ended() {
             self.outgoing.try_from(now);
@@ -125,7 +125,7 @@ impl<'a, N: Names, R: Wait + Clock + Files + AllocGlobal + Copy + Drop> Server<'
         self.readiness.look(self.rt, self.station.entity(), now);
     }
 
-    // Has the file read whose turn it is; whether there is one.
+    // Begins to read the file whose turn it is. Returns whether it did.
     fn read_next(&mut self, now: u64) -> bool {
         let (idle, stops) = (self.readiness.idle(), self.readiness.stops());
         if !self.outgoing.begin_reading(now, idle, stops) {
@@ -143,7 +143,8 @@ impl<'a, N: Names, R: Wait + Clock + Files + AllocGlobal + Copy + Drop> Server<'
         }
     }
 
-    // Puts the file of the outbox that is being read, once it was read. Where it can't be put yet, it comes back.
+    // Puts the file of the outbox that is being read, once it was read. If it can't be put yet, it comes back. Returns
+    // whether it was read.
     fn put_read(&mut self, now: u64) -> bool {
         let Some(file) = self.desk.take_file(self.rt) else {
             return false;
@@ -157,8 +158,8 @@ impl<'a, N: Names, R: Wait + Clock + Files + AllocGlobal + Copy + Drop> Server<'
         true
     }
 
-    // Puts the file of the outbox that was read into the lane of its user whose number goes to its entity next. None where it was
-    // withdrawn meanwhile, its link is held, no such lane is idle, or memory ran out.
+    // Puts the file of the outbox that was read into the lane of its user whose number goes to its entity next. `None`
+    // if it was withdrawn meanwhile, its link is held, no such lane is idle, or memory ran out.
     fn put_queued(&mut self, file: Result<Octets, ProgramFault>, now: u64) -> Option<Outcome> {
         let Some((mut put, from)) = put_of(&self.outgoing) else {
             return None;
@@ -173,7 +174,8 @@ impl<'a, N: Names, R: Wait + Clock + Files + AllocGlobal + Copy + Drop> Server<'
         Some(self.put(&put, file, Some(&from)))
     }
 
-    // The file that was read leaves the outbox unsent, which is reported, or comes back where that may change.
+    // Takes the file that was read out of the outbox unsent, and reports that; or gives it back, if it may be taken
+    // later or memory ran out.
     fn leave_unsent(&mut self, declined: &Declined, unread: Option<Unread>, now: u64) {
         let mut answer = String::new(self.alloc);
         let is_told = push_declined(self.alloc, &mut answer, declined).is_ok();
@@ -187,8 +189,8 @@ impl<'a, N: Names, R: Wait + Clock + Files + AllocGlobal + Copy + Drop> Server<'
         }
     }
 
-    // Whether a file of the outbox may be taken later: memory ran out, its user's queue was full, or the file of numbers can't be
-    // written where the outbox is kept over restarts.
+    // Whether a file of the outbox may be taken later: memory ran out, its user's queue was full, or the file of
+    // numbers can't be written and the outbox is kept over restarts.
     fn may_pass(&self, declined: &Declined) -> bool {
         match declined {
             Declined::NoMemory => true,
@@ -199,12 +201,12 @@ impl<'a, N: Names, R: Wait + Clock + Files + AllocGlobal + Copy + Drop> Server<'
     }
 }
 
-// The path of the file that is to be read, where there is memory for it.
+// The path of the file that is to be read, if there is memory for it.
 fn path_of(outgoing: &Outgoing) -> Option<Octets> {
     outgoing.reading()?.file.source.copy().ok()
 }
 
-// The Put of the file that was read, in the user's first lane, and where it comes from, where there is memory for it.
+// The Put of the file that was read, in the user's first lane, and where it comes from, if there is memory for it.
 fn put_of(outgoing: &Outgoing) -> Option<(PutCommand, FromOutbox)> {
     let waiting = outgoing.reading()?;
     let file = &waiting.file;

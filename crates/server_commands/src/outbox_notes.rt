@@ -1,4 +1,4 @@
-//! What the file of the outbox is told: which of its files are under way, and which left for good.
+//! What is noted in the file of the outbox: which of its files are under way, and which left for good.
 use crate::commands::Server;
 use cfdp_types::TxnKey;
 use entity_routing::Place;
@@ -12,8 +12,9 @@ use std::sync::Wait;
 use std::time::Clock;
 
 impl<'a, N: Names, R: Wait + Clock + Files + AllocGlobal + Copy + Drop> Server<'a, N, R> {
-    /// Notes that the file of the outbox with a number is under way in a lane, if the transaction before it has ended. A disk
-    /// that doesn't take it loses nothing, since the file counts as one that waits.
+    /// Notes that the file of the outbox with a number is under way in a lane. If the end of the transaction before it
+    /// there wasn't noted yet, notes that too. If the disk doesn't take it, nothing is lost, because the file counts as
+    /// one that waits.
     pub(crate) fn note_begun(&mut self, place: Place, key: TxnKey, number: u64) {
         let before = self.begun.note(place, key, number);
         if let Some(ended) = before {
@@ -31,8 +32,8 @@ impl<'a, N: Names, R: Wait + Clock + Files + AllocGlobal + Copy + Drop> Server<'
         }
     }
 
-    /// Looks which transactions of the outbox have ended, if one may have, and notes them. If memory for that runs out, it looks
-    /// again.
+    /// Looks for transactions of the outbox that have ended, if one may have, and notes their ends. If memory for that
+    /// runs out, it looks again later.
     pub(crate) fn note_ends(&mut self, now: u64) {
         if self.held.is_none() || !self.begun.looks() {
             return;
@@ -47,7 +48,7 @@ impl<'a, N: Names, R: Wait + Clock + Files + AllocGlobal + Copy + Drop> Server<'
         }
     }
 
-    // Notes whether the transaction of a lane has ended.
+    // Notes the end of a lane's transaction, if it has ended.
     fn note_end_at(&mut self, place: Place, now: u64) {
         let Some((key, number)) = self.begun.under_way(place) else {
             return;
@@ -71,7 +72,7 @@ impl<'a, N: Names, R: Wait + Clock + Files + AllocGlobal + Copy + Drop> Server<'
         }
     }
 
-    /// Notes what the disk didn't take before; whether it took anything.
+    /// Notes the first of what the disk didn't take before. Returns whether it took that.
     pub(crate) fn settle_outbox(&mut self, now: u64) -> bool {
         match &mut self.held {
             Some(held) => held.settle(now),

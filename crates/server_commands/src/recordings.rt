@@ -1,4 +1,4 @@
-//! Has transactions recorded.
+//! Leaves transactions to be recorded.
 use crate::commands::{Next, Server};
 use cfdp_types::TxnKey;
 use program_seats::Asker;
@@ -18,7 +18,7 @@ impl<'a, N: Names, R: Wait + Clock + Files + AllocGlobal + Copy + Drop> Server<'
             .record_ended(self.rt, self.alloc, entity);
     }
 
-    /// Has a transaction recorded for whoever asks, or replies why that can't be.
+    /// Leaves a transaction to be recorded for whoever asks, or replies why that can't be done.
     pub(crate) fn record_for(
         &mut self,
         key: TxnKey,

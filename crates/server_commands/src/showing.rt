@@ -79,7 +79,8 @@ impl<'a, N: Names, R: Wait + Clock + Files + AllocGlobal + Copy + Drop> Server<'
     }
 }
 
-// What a status shows of the files that are to be stored: the one that the store is at, and those that couldn't be stored so far.
+// What a status shows of the files that are to be stored: the one that the store is at, and those that couldn't be
+// stored so far.
 fn storing_of(
     alloc: Global,
     depot: &DepotReport,

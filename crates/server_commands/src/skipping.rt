@@ -23,7 +23,7 @@ pub struct Opened {
     key: TxnKey,
 }
 
-// How what nobody asked for is refused.
+// How a request that no user made is refused.
 #[derive(Clone, Copy, Debug, PartialEq, Eq)]
 pub(crate) enum Refused {
     /// Memory, or room in the user's queue, ran out.
@@ -39,7 +39,8 @@ impl Refused {
 }
 
 impl<'a, N: Names, R: Wait + Clock + Files + AllocGlobal + Copy + Drop> Server<'a, N, R> {
-    /// Uses up numbers of a lane, up to the next one that may go, if a file waits for nothing else; returns whether it used any.
+    /// Uses up numbers of a lane, up to the next one that may go, if a file waits for nothing else; returns whether it
+    /// used any.
     pub(crate) fn skip_some(&mut self, now: u64) -> bool {
         let Some(skip) = self.readiness.skip() else {
             return false;
@@ -66,8 +67,8 @@ impl<'a, N: Names, R: Wait + Clock + Files + AllocGlobal + Copy + Drop> Server<'
         true
     }
 
-    // Opens a transaction in a lane and abandons it, before anything of it is sent; whether it opened one. Where it can't be
-    // abandoned yet, that is tried again.
+    // Opens a transaction in a lane and abandons it, before anything of it is sent. Returns whether it opened one. If
+    // it can't be abandoned yet, that is tried again.
     fn skip_one(&mut self, skip: Skip) -> bool {
         if !self.covers() {
             return false;
@@ -94,8 +95,8 @@ impl<'a, N: Names, R: Wait + Clock + Files + AllocGlobal + Copy + Drop> Server<'
         true
     }
 
-    /// Abandons the transaction that was opened to use up its number, if it wasn't abandoned yet. It stays if memory or room
-    /// in its user's queue ran out.
+    /// Abandons the transaction that was opened to use up its number, if it wasn't abandoned yet. It stays if memory or
+    /// room in its user's queue ran out.
     pub(crate) fn abandon_opened(&mut self) {
         if let Some(Opened { user, key }) = self.opened
             && self.ask_quietly(user, Request::Abandon(key)) != Err(Refused::ForNow)

@@ -17,17 +17,17 @@ const LAST_STORE_MS: u64 = 10_000;
 // The longest sleep of the main thread, in milliseconds.
 const LONGEST_SLEEP_MS: u64 = 60_000;
 
-// The same where events are reported: once a second it looks at refusals, and tries again to write a log that failed.
+// The same if events are reported: once a second it looks at refusals, and tries again to write a log that failed.
 const LONGEST_SLEEP_WITH_EVENTS_MS: u64 = 1_000;
 
 impl<'a, N: Names, R: Wait + Clock + Files + AllocGlobal + Copy + Drop> Server<'a, N, R> {
-    /// Notes what steps have left at the desk. Returns whether there was anything.
+    /// Notes the rest of the steps that were left at the desk. Returns whether there were any.
     pub fn settle(&mut self) -> bool {
         self.station.settle_left(self.desk, &mut self.steps)
     }
 
-    /// Goes on with files of the outbox, timers and PDUs of files, notes which files were stored, and lets events leave. Returns
-    /// whether there was any work.
+    /// Goes on with files of the outbox, timers and PDUs of files, notes which files were stored, and lets events
+    /// leave. Returns whether there was any work.
     pub fn turn(&mut self, now: u64) -> bool {
         self.record_ended();
         self.settle_counts();
@@ -41,7 +41,8 @@ impl<'a, N: Names, R: Wait + Clock + Files + AllocGlobal + Copy + Drop> Server<'
         has_started || has_noted || has_worked || has_stored
     }
 
-    /// Sleeps until something comes, or until there is work without that: soon, if users' bundles wait for a client.
+    /// Sleeps until something comes, or until there is work without that. If users' bundles wait for a client, sleeps
+    /// only for a short time.
     pub fn rest(&self, now: u64, waits: bool) {
         let longest = if waits {
             REST_MS

@@ -4,8 +4,8 @@ use entity_config::Config;
 use entity_routing::Place;
 use std::alloc::{AllocError, Global};
 
-/// The last transaction that the outbox began in each sending lane, by user and lane; and the number in the outbox of each file
-/// whose transaction isn't known to have ended.
+/// The last transaction that the outbox began in each sending lane, by user and lane; and the number in the outbox of
+/// each file whose transaction isn't known to have ended.
 #[derive(Drop)]
 pub struct Begun {
     put_lanes: usize,
@@ -35,8 +35,8 @@ impl Begun {
             .saturating_add(place.lane)
     }
 
-    /// The outbox has begun a transaction in a lane, of the file with a number. Returns the number of the file before it there,
-    /// unless the end of its transaction was noted.
+    /// Notes that the outbox has begun a transaction in a lane, for the file with a number. Returns the number of the
+    /// file before it there, unless the end of that one's transaction was noted.
     pub fn note(&mut self, place: Place, key: TxnKey, number: u64) -> Option<u64> {
         let index = self.index_of(place);
         if let Some(last) = self.keys.get_mut(index) {
@@ -56,7 +56,7 @@ impl Begun {
         Some((key, number))
     }
 
-    /// The end of a lane's transaction is noted.
+    /// Notes the end of a lane's transaction.
     pub fn note_end(&mut self, place: Place) {
         let index = self.index_of(place);
         if let Some(last) = self.numbers.get_mut(index) {
@@ -64,7 +64,7 @@ impl Begun {
         }
     }
 
-    /// Whether lanes are to be looked at, since a transaction may have ended.
+    /// Whether lanes are to be looked at, because a transaction may have ended.
     pub fn looks(&self) -> bool {
         self.looks
     }

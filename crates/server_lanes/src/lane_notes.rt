@@ -6,8 +6,8 @@ use program_status::LaneHint;
 use program_words::PeerLanes;
 use std::alloc::{AllocError, Global};
 
-/// The remote entities whose receiving lanes the sending lanes of this one don't divide. `peers` says how many receiving lanes
-/// they have; others have as many as this one.
+/// The remote entities whose receiving lanes the sending lanes of this one don't divide. `peers` says how many
+/// receiving lanes they have; others have as many as this one.
 pub fn hints_of(
     alloc: Global,
     config: &Config,

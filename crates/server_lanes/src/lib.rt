@@ -1,5 +1,5 @@
-//! The server's sending lanes: which files of the outbox can leave in which of them, what the outbox began there, and where files wait
-//! for each other.
+//! The server's sending lanes: which files of the outbox can leave in which of them, what the outbox began there, and
+//! where files wait for each other.
 #![tactic(auto)]
 
 mod begun;

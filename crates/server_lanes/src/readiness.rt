@@ -12,8 +12,8 @@ use shared_lanes::Names;
 use std::alloc::{AllocError, Global};
 use std::sync::Wait;
 
-// How many milliseconds after a file of class 1 left the next one with its remainder may leave. A receiver with several workers
-// could let a few PDUs of the first one be overtaken otherwise.
+// How many milliseconds after a file of class 1 left the next one with its remainder may leave. A receiver with several
+// workers could let a few PDUs of the first one be overtaken otherwise.
 const REST_MS: u64 = 5;
 
 /// A lane whose next number can't go to an entity any more: it is used up.
@@ -31,7 +31,7 @@ struct Pair {
     place: usize,
 }
 
-// The last end that was seen of a lane's transactions, by its number, and until when the lane rests therefore.
+// The last end that was seen of a lane's transactions, by its number, and until when the lane rests because of it.
 #[derive(Clone, Copy, Debug, PartialEq, Eq)]
 struct Ended {
     number: Option<u64>,
@@ -64,8 +64,8 @@ pub struct Readiness {
 }
 
 impl Readiness {
-    /// No lane is idle, and no number was used. `peers` says how many receiving lanes remote entities have; others have as many
-    /// as this one.
+    /// No lane is idle, and no number was used. `peers` says how many receiving lanes remote entities have; others have
+    /// as many as this one.
     pub fn new(
         alloc: Global,
         config: &Config,
@@ -155,7 +155,8 @@ impl Readiness {
         })
     }
 
-    /// Looks at all sending lanes, at a moment of the runtime's clock. If memory for that runs out, no lane counts as idle.
+    /// Looks at all sending lanes, at a moment of the runtime's clock. If memory for that runs out, no lane counts as
+    /// idle.
     pub fn look<N: Names, R: Wait + Copy>(&mut self, rt: &R, entity: &Entity<N, R>, now: u64) {
         self.lanes.clear();
         self.spent.clear();
@@ -279,8 +280,8 @@ impl Readiness {
         user.saturating_mul(self.put_lanes).saturating_add(lane)
     }
 
-    /// Notes for the files that wait which of them can't go, by the lanes as they were looked at last, and which lane's numbers
-    /// have to be used up.
+    /// Notes for the files that wait which of them can't go, by the lanes as they were looked at last, and which lane's
+    /// numbers have to be used up.
     pub fn note_files(&mut self, links: &Links, outgoing: &Outgoing) {
         self.pairs.clear();
         self.stops.clear();
@@ -317,7 +318,8 @@ impl Readiness {
         self.lineups.iter().position(|lineup| lineup.peer() == id)
     }
 
-    // Notes whether nothing goes from a user to an entity, and which number is used up therefore.
+    // Notes whether nothing goes from a user to an entity, and which lane's number has to be used up before something
+    // can.
     fn note_stop(&mut self, pair: Pair, is_held: bool) {
         let Some(lineup) = self.lineups.get(pair.place) else {
             return;
@@ -355,8 +357,8 @@ impl Readiness {
         None
     }
 
-    /// The lane of a user that takes a file to an entity, by the lanes as they were looked at last. A file that no lane can
-    /// ever take goes to the first one, which refuses it.
+    /// The lane of a user that takes a file to an entity, by the lanes as they were looked at last. A file that no lane
+    /// can ever take goes to the first one, which refuses it.
     pub fn lane_for(&self, user: usize, destination: EntityId) -> Option<usize> {
         if !self.has_seen_all {
             return None;

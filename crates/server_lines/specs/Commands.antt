@@ -56,7 +56,7 @@ put_command user lane sending =
 
 -- ---- files that wait
 
--- what a send asks for beside its file, without another source name
+-- what a send asks for besides its file, without another source name
 abbrev pub options : Bool → Bool → SendOptions
 options closure urgent = record { closure = closure; is_urgent = urgent; source_name = None }
 

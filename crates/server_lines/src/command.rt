@@ -47,7 +47,8 @@ pub struct SendCommand {
 /// What changes the server while it runs, or watches a part of it.
 #[derive(Clone, Copy, Debug, PartialEq, Eq)]
 pub enum Tuning {
-    /// At most so many octets a second leave for this remote entity, or for all of them together; `None` lifts the limit.
+    /// At most so many octets a second of files leave for this remote entity, or together for all that have no limit of
+    /// their own; `None` lifts the limit.
     Rate(Option<EntityId>, Option<u64>),
     /// Hold the links to all remote entities.
     HoldAll,
@@ -55,8 +56,8 @@ pub enum Tuning {
     ReleaseAll,
     /// Open the link to this entity for so many seconds, 1 to 86,400; then hold it again.
     ReleaseFor(EntityId, u64),
-    /// Send events of this level and above to the client from now on, after the last ones of these that are kept, at most
-    /// this many.
+    /// Send the client the last kept events of this level and above, at most this many, and then all later ones of
+    /// these.
     FollowFrom(u64, Level),
     /// Open the log anew.
     Reopen,
@@ -69,7 +70,7 @@ pub enum Command {
     Put(PutCommand),
     /// Put a file in the outbox.
     Send(SendCommand),
-    /// A user's request of a transaction.
+    /// A user's request about a transaction.
     Ask(usize, Request),
     /// A user takes the bundle at the front of its queue.
     Take(usize),
@@ -79,7 +80,7 @@ pub enum Command {
     Journal(TxnKey),
     /// Report the server's status.
     Status,
-    /// Send events to the client from now on, after the last ones that are kept, at most this many.
+    /// Send the client the last kept events, at most this many, and then all later ones.
     Follow(u64),
     /// List the files in the outbox.
     Outbox,
@@ -95,8 +96,8 @@ pub enum Command {
     Quit,
 }
 
-/// Parses a line of commands, by the users and lanes of a configuration; `None` if it isn't a command. A line
-/// without double quotes allocates only a file's names; one with quotes allocates each of its words.
+/// Parses a line of commands, by the users and lanes of a configuration; `None` if it isn't a command. Parsing a line
+/// without double quotes allocates only a file's names; parsing one with quotes allocates each of its words.
 pub fn command_of(
     alloc: Global,
     config: &Config,

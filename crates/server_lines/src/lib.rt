@@ -1,4 +1,4 @@
-//! Parses the lines of commands of a server.
+//! Parses the lines of a server's commands.
 #![tactic(auto)]
 
 mod command;

@@ -7,7 +7,7 @@ use cfdp_types::Octets;
 use line_words::Words;
 use std::alloc::{AllocError, Global};
 
-// What a send asks for beside its file.
+// What a send asks for besides its file.
 #[derive(Drop)]
 pub(crate) struct SendOptions {
     pub(crate) closure: bool,

@@ -61,7 +61,7 @@ fn rate_from(remote: &[u8], limit: &[u8], operands: Words<'_>) -> Option<Command
     Some(Command::Tune(Tuning::Rate(Some(EntityId(remote)), limit)))
 }
 
-/// Parses which link is held.
+/// Parses which link to hold, or all.
 pub(crate) fn hold(operands: Words<'_>) -> Option<Command>
     ensures { result ≡ hold_of operands.entry }
 {
@@ -73,7 +73,7 @@ pub(crate) fn hold(operands: Words<'_>) -> Option<Command>
     Some(Command::Hold(EntityId(remote)))
 }
 
-/// Parses which link is open again, and for how long.
+/// Parses which link to open again, or all; for one link also for how long.
 pub(crate) fn release(operands: Words<'_>) -> Option<Command>
     ensures { result ≡ release_of operands.entry }
 {
@@ -135,7 +135,7 @@ fn follow_by(count: u64, operands: Words<'_>) -> Option<Command>
     }
 }
 
-/// Parses that the log is opened anew.
+/// Parses the command that opens the log anew.
 pub(crate) fn reopen(operands: Words<'_>) -> Option<Command>
     ensures { result ≡ reopen_of operands.entry }
 {

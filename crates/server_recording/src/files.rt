@@ -25,7 +25,7 @@ pub trait ServerFiles {
     fn keep(&self, keeper: &mut Keeper, key: TxnKey, recording: &Recording) -> io::Result<()>;
 }
 
-/// What the thread begins with that stores received files.
+/// What the thread that stores received files begins with.
 #[derive(Drop)]
 pub struct FolderStoring<'x, N: Names, R: Copy> {
     pub rt: &'x R,
@@ -85,7 +85,7 @@ fn layout_of(words: &ServerWords<'_>) -> Layout {
     }
 }
 
-// What becomes of a file that has a received file's name.
+// What becomes of an existing file that has a received file's name.
 fn clash_of(words: &ServerWords<'_>) -> Clash {
     if words.keep {
         Clash::Keep

@@ -1,4 +1,4 @@
-//! Which transactions the server records, and the thread that does, with what the server's threads do with files.
+//! Which transactions the server records, the thread that records them, and what the server's threads do with files.
 #![tactic(auto)]
 
 mod files;

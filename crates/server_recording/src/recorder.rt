@@ -18,8 +18,8 @@ use std::sync::Wait;
 use std::time::Clock;
 use txn_events::Event;
 
-/// What a recorder has to do with: its entity's configuration, the book in which it finds what to record, and the desk and the seats
-/// that it delivers to.
+/// What a recorder works with: its entity's configuration, the book in which it finds what to record, and the desk and
+/// the seats that it delivers to.
 #[derive(Clone, Copy)]
 pub struct Ties<'x> {
     pub config: &'x Config,
@@ -198,7 +198,7 @@ impl<'x, R: Wait + Clock, F: ServerFiles> Recorder<'x, R, F> {
         }
     }
 
-    // Sends each client that has taken what was sent its next piece.
+    // Sends its next piece to each client for which no text waits.
     fn deliver(&mut self) {
         let Some(seats) = self.seats else {
             return;
@@ -211,7 +211,7 @@ impl<'x, R: Wait + Clock, F: ServerFiles> Recorder<'x, R, F> {
 }
 
 impl Delivery {
-    // Sends the next piece, if the client has taken what was sent.
+    // Sends the next piece, if no text waits for the client.
     fn go_on<R: Wait>(&mut self, rt: &R, seats: &Seats, now: u64) -> Way {
         match seats.has_taken(rt, self.asker) {
             None => return Way::Over,
@@ -268,7 +268,7 @@ fn shown(alloc: Global, recorded: Result<Recording, ScriptFault>) -> Recording {
     }
 }
 
-// The line for why there is no recording; nothing where memory runs out.
+// The line that says why there is no recording; empty if memory runs out.
 fn refusal_of(alloc: Global, fault: ScriptFault) -> String {
     let mut text = String::new(alloc);
     let pushed = match fault {

@@ -23,7 +23,8 @@ use txn_events::Event;
 // How many transactions may wait to be recorded.
 const WAITING: usize = 256;
 
-// How long to wait before a client's text is looked at again, in milliseconds, and how long a client may take no text at all.
+// How long to wait before a client's text is looked at again, in milliseconds, and how long a client may take no text
+// at all.
 const LOOK_MS: u64 = 2;
 
 pub(crate) const PATIENCE_MS: u64 = 10_000;
@@ -109,7 +110,7 @@ impl Book {
         self.records && (self.records_all || !is_kept_whole(end))
     }
 
-    // Leaves a transaction to be recorded, unless too many wait.
+    // Leaves a transaction to be recorded, unless too many wait. Returns whether it did.
     fn leave<R: Wait>(&self, rt: &R, job: Job) -> bool {
         let mut tray = self.tray.lock(rt);
         let is_left = tray.jobs.len() < WAITING && tray.jobs.push_back(job).is_ok();
@@ -138,7 +139,7 @@ impl Book {
         Found::End
     }
 
-    /// Nothing more is recorded than what waits.
+    /// Closes the book: only what already waits is still recorded.
     pub fn close<R: Wait>(&self, rt: &R) {
         self.tray.lock(rt).is_closed = true;
         self.came.notify_all();
@@ -160,7 +161,7 @@ impl Book {
         }
     }
 
-    // Moves the next piece of what is printed into `text`; whether it is there, and the last one.
+    // Adds the next piece of what is printed to `text`. Returns whether it is there, and whether it is the last one.
     fn take_printed<R: Wait>(&self, rt: &R, text: &mut String) -> Result<Piece, AllocError> {
         let mut tray = self.tray.lock(rt);
         let Some(printed) = &mut tray.printed else {
@@ -181,8 +182,8 @@ impl Book {
         Ok(Piece::Last)
     }
 
-    /// Adds the line of a status that says how many recordings were kept, how many transactions were gone before they could be
-    /// recorded, and how many recordings couldn't be made or written.
+    /// Adds the line of a status that says how many recordings were kept, how many transactions were gone before they
+    /// could be recorded, and how many recordings couldn't be made or written.
     pub fn push_status(&self, text: &mut String) -> Result<(), AllocError> {
         if !self.records {
             return Ok(());
@@ -236,7 +237,8 @@ pub struct Watched<'a> {
     pub book: &'a Book,
     sightings: Sightings,
     ended: Vec<Ended>,
-    /// Transactions that were opened and abandoned to use up their numbers, and whose ends weren't seen yet. None is recorded.
+    /// Transactions that were opened and abandoned to use up their numbers, and whose ends weren't seen yet. None is
+    /// recorded.
     skipped: Vec<TxnKey>,
     /// Up to which moment by the runtime's clock a recording is to be printed before any other reply, if one is.
     awaits: Option<u64>,
@@ -261,7 +263,7 @@ impl<'a> Watched<'a> {
         })
     }
 
-    /// Notes a bundle at its moment.
+    /// Notes a bundle that came at a moment.
     pub fn note(&mut self, bundle: &Bundle, at: Moment) {
         self.sightings.note(bundle, at);
         if let Some(end) = bundle.inds.as_slice().last()
@@ -282,7 +284,7 @@ impl<'a> Watched<'a> {
         }
     }
 
-    /// A transaction was opened to use up its number, so it isn't recorded. If memory runs out, it is.
+    /// Notes that a transaction was opened to use up its number, so it isn't recorded. If memory runs out, it is.
     pub fn skip(&mut self, key: TxnKey) {
         if self.book.records() {
             let _has_memory = self.skipped.push(key);
@@ -339,8 +341,8 @@ impl<'a> Watched<'a> {
         self.book.leave(rt, job)
     }
 
-    /// Has a transaction recorded for whoever asks; returns whether it was left to be recorded. If nobody at a control socket asks,
-    /// the recording is printed.
+    /// Leaves a transaction to be recorded for whoever asks, and returns whether it did. If nobody at a control socket
+    /// asks, the recording is printed.
     pub fn record_for<N: Names, R: Wait + Clock + Copy>(
         &mut self,
         rt: &R,
@@ -362,8 +364,8 @@ impl<'a> Watched<'a> {
         is_left
     }
 
-    /// Whether a recording is to be printed before any other reply; adds its next piece, once that is there. One that isn't made
-    /// within ten seconds is refused.
+    /// Whether a recording is to be printed before any other reply; adds its next piece, once that is there. One that
+    /// isn't made within ten seconds is refused.
     pub fn print_recording<R: Wait + Clock>(
         &mut self,
         rt: &R,

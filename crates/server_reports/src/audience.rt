@@ -30,7 +30,7 @@ pub struct Audience<'a, R: Files> {
 }
 
 impl<'a, R: Wait + Clock + Files> Audience<'a, R> {
-    /// The users of the configuration that is reported of, by their ports.
+    /// The users of the configuration in `reports`, by their ports.
     pub fn new(
         rt: &'a R,
         alloc: Global,
@@ -61,7 +61,7 @@ impl<'a, R: Wait + Clock + Files> Audience<'a, R> {
         self.reports.has_readers() || self.watched.book.records() || self.counts.is_some()
     }
 
-    /// Takes and prints the bundle at the front of a user's queue, unless events report it or transactions are recorded.
+    /// Takes and prints the bundle at the front of a user's queue, unless bundles are reported, recorded or counted.
     pub fn take(&mut self, user: usize, text: &mut String) -> Result<(), AllocError> {
         if self.is_reported() {
             return text.push_str("refused TakenByEvents\n");
@@ -72,7 +72,8 @@ impl<'a, R: Wait + Clock + Files> Audience<'a, R> {
         }
     }
 
-    /// Takes and reports at most one bundle of each user, and prints it if that is wanted. Returns whether there was one.
+    /// Takes and reports at most one bundle of each user, and prints it if that is wanted. Returns whether there was
+    /// one.
     pub fn receive_each(&mut self, text: &mut String) -> Result<bool, AllocError> {
         let mut has_received = false;
         for user in 0..self.config.users() {
@@ -86,15 +87,15 @@ impl<'a, R: Wait + Clock + Files> Audience<'a, R> {
         Ok(has_received)
     }
 
-    /// Sends a client the last events, at most `most`, and all later ones, from a level on if one is asked for. If memory for that runs
-    /// out, the client is cut off.
+    /// Sends a client the last events, at most `most`, and all later ones, from a level on if one is asked for. If
+    /// memory for that runs out, the client is cut off.
     pub fn follow(&mut self, seats: &Seats, asker: Asker, most: u64, least: Option<Level>) {
         if self.reports.follow(asker, most, least).is_err() {
             seats.cut(self.rt, asker);
         }
     }
 
-    /// Lends the ports of the users, for `take_back`.
+    /// Lends the ports of the users, until `take_back`.
     pub fn lend_ports(&mut self) -> Vec<UserPort> {
         mem::replace(&mut self.ports, Vec::new(self.alloc))
     }

@@ -104,7 +104,7 @@ impl<'a, R: Wait + Clock + Files> Reports<'a, R> {
         }
     }
 
-    /// Whether events reach the log, if there is one.
+    /// The state of the log, if there is one.
     pub fn log_status(&self) -> Option<LogStatus> {
         match &self.events {
             Some(events) => events.log_status(),
@@ -156,8 +156,8 @@ impl<'a, R: Wait + Clock + Files> Reports<'a, R> {
         }
     }
 
-    /// Reports a command, by its words as it was understood, with the first line of its reply, the seat of the client that
-    /// gave it, if one did, and why its file can't be read, if that is to be said.
+    /// Reports a command, by its words as it was understood, with the first line of its reply, the seat of the client
+    /// that gave it, if one did, and why its file can't be read, if that is to be said.
     pub fn command<'w>(
         &mut self,
         words: &'w str,
@@ -177,8 +177,8 @@ impl<'a, R: Wait + Clock + Files> Reports<'a, R> {
         }
     }
 
-    /// Reports a file of the outbox that was not sent, and why, by the first line of `why`; also why it can't be read, if that is
-    /// to be said.
+    /// Reports a file of the outbox that was not sent, and why, by the first line of `why`; also why it can't be read,
+    /// if that is to be said.
     pub fn fail(&mut self, waiting: &Waiting, why: &str, unread: Option<Unread>) {
         let at = self.now();
         let unsent = UnsentEvent {
@@ -194,8 +194,8 @@ impl<'a, R: Wait + Clock + Files> Reports<'a, R> {
         }
     }
 
-    /// Reports that numbers of a user's lane were used up, since they lagged behind those used toward an entity; `next` is the
-    /// lane's next number.
+    /// Reports that numbers of a user's lane were used up, because they lagged behind those used toward an entity;
+    /// `next` is the lane's next number.
     pub fn skip(&mut self, user: usize, destination: EntityId, count: u64, next: u64) {
         let at = self.now();
         let skipped = SkippedEvent {
@@ -209,7 +209,7 @@ impl<'a, R: Wait + Clock + Files> Reports<'a, R> {
         }
     }
 
-    /// Reports that a user's transaction was abandoned since its journal is full.
+    /// Reports that a user's transaction was abandoned because its journal is full.
     pub fn end_full(&mut self, user: usize, key: TxnKey) {
         let at = self.now();
         let name = self.config.name_of(user).unwrap_or("");
@@ -225,7 +225,8 @@ impl<'a, R: Wait + Clock + Files> Reports<'a, R> {
         }
     }
 
-    /// Reports that nothing leaves for a remote entity from a moment on, since the time is over for which its link was open.
+    /// Reports that nothing leaves for a remote entity from a moment on, because the time for which its link was open
+    /// is over.
     pub fn hold_planned(&mut self, at: Moment, remote: EntityId) {
         if let Some(events) = &mut self.events {
             events.hold_planned(at, remote);
@@ -278,8 +279,8 @@ impl<'a, R: Wait + Clock + Files> Reports<'a, R> {
         }
     }
 
-    // Reports what was refused since the last report, and how many parked datagrams were dropped. Where there is no memory for
-    // that, it is reported later.
+    // Reports what was refused since the last report, and how many parked datagrams were dropped. If there is no memory
+    // for that, it is reported later.
     fn refusals(&mut self) {
         let at = self.now();
         let unparked = self.lot.dropped(self.rt);
@@ -301,7 +302,8 @@ impl<'a, R: Wait + Clock + Files> Reports<'a, R> {
         }
     }
 
-    /// Sends a client the last events, at most so many, and all that come from now on, from a level on if one is asked for.
+    /// Sends a client the last events, at most so many, and all that come from now on, from a level on if one is asked
+    /// for.
     pub fn follow(
         &mut self,
         asker: Asker,

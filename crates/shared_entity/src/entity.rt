@@ -260,8 +260,8 @@ impl<N: Names, R: Wait + Copy> Entity<N, R> {
         trace_at(&held, place, key)
     }
 
-    /// Copies of the events that the transaction with this key has accepted, in order; they share their octets. The lane
-    /// is locked only while the copies are made. The refusals are those of [`Entity::trace`], and NoMemory.
+    /// Copies of the events that the transaction with this key has accepted, in order. They share their octets. The
+    /// lane is locked only while the copies are made. The refusals are those of [`Entity::trace`], and NoMemory.
     pub fn journal(&self, rt: &R, key: TxnKey) -> Result<Vec<Event>, EntityRefusal>
         ensures given { IfOk result (λ events. MayGiveJournal N.queue key (key_place self.now key) events.items) }
         ensures refused { IfErr result (MayRefuseJournal N.queue key (key_place self.now key)) }
@@ -351,7 +351,7 @@ impl<N: Names, R: Wait + Copy> Entity<N, R> {
     }
 }
 
-// Gives an event to the lane behind a lock, if that is the lane of the place, and else answers `WrongLane`.
+// Passes an event to the lane behind a lock if that is the lane of the place; otherwise returns `WrongLane`.
 fn bring<N: Names, R: Wait + Copy, G: Gate<N, R>>(
     gate: &G,
     held: &mut Held<N, R>,

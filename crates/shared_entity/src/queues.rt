@@ -9,7 +9,7 @@ use std::alloc::{AllocError, Global};
 use std::sync::Wait;
 use user_queues::{Queues, open};
 
-/// A queue for each user, with an outlet for each of the user's lanes.
+/// Opens a queue for each user, with an outlet for each of the user's lanes.
 pub fn queues_of<R: Wait + Copy>(
     rt: R,
     alloc: Global,

@@ -4,7 +4,7 @@ use std::sync::Wait;
 use txn_events::Event;
 use user_queues::Names;
 
-/// How far a thread with an event for a lane has come.
+/// A point that a thread with an event for a lane reaches.
 #[derive(Clone, Copy, Debug, PartialEq, Eq)]
 pub enum Point {
     /// A worker took a datagram.
@@ -20,11 +20,11 @@ pub trait Gate<N: Names, R: Wait + Copy> {
     ghost use Rattle.lane_table.specs.Steps.{IsKeyed};
     ghost use Rattle.shared_lanes.specs.Held.{HeldValue};
 
-    /// The answer to an event.
+    /// The result of handling an event.
     type Answer;
 
-    /// What the gate may do with a lane's event: the value behind the lock before, the event, the answer, and the value
-    /// after.
+    /// What the gate may do with a lane's event, as a relation of four: the value behind the lock before, the event,
+    /// the answer, and the value after.
     ghost gives: { Self → HeldValue → EventValue → Self.Answer → HeldValue → Type 0 };
 
     /// Called at each point that the thread reaches.

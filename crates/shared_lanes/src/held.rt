@@ -9,7 +9,7 @@ use txn_lane::Lane;
 use user_queues::{LaneOutlet, Names};
 
 /// A lane with its own outlet, of the queue that `N` names for its user. Contracts see both. The type ensures that all
-/// that was sent through the outlet fits the lane, so only steps of the lane put bundles into the queue there.
+/// that was sent through the outlet fits the lane. So only steps of the lane put bundles into the queue through it.
 #[derive(Drop)]
 pub struct Held<N: Names, R: Copy> {
     lane: Lane,

@@ -88,7 +88,7 @@ pub(crate) fn tell<N: Names, R: Wait + Copy>(
     }
 }
 
-// Asks for something but a Put, in a user's name.
+// Makes a user's request other than a Put.
 fn ask<N: Names, R: Wait + Copy>(
     rt: &R,
     entity: &Entity<N, R>,
@@ -111,7 +111,7 @@ fn deliver<N: Names, R: Wait + Copy>(
     told(entity.deliver(rt, gate, octets))
 }
 
-// The number stands for what no entity answers: that there was no such request.
+// No entity refuses an event with this number: it means that no request was made.
 const NOT_ASKED: Said = Said::Refused(0);
 
 fn put<N: Names, R: Wait + Copy>(
@@ -136,7 +136,7 @@ fn put<N: Names, R: Wait + Copy>(
 // waits, or the user's queue is full.
 const EARLY: [u8; 4] = [1, 3, 6, 13];
 
-/// Passes an event to its lane, again and again while it comes too early; returns whether the lane took it.
+/// Passes an event to its lane, again and again while it comes too early. Returns whether the lane accepted it.
 pub(crate) fn tell_in_time<N: Names, R: Wait + Copy>(
     rt: &R,
     alloc: Global,

@@ -1,4 +1,4 @@
-//! A lane that is held back makes no other wait.
+//! A lane that is held back makes no other lane wait.
 
 use crate::acts::{Act, tell};
 use crate::runs::{Run, play};
@@ -14,7 +14,7 @@ use std::thread;
 use std::thread::Threads;
 
 /// Holds back the first user's receiving lane until both users have put a file, and while one more datagram arrives for
-/// that lane. Adds what came of the datagrams, the Puts, and how many locks each thread had.
+/// that lane. Adds the outcomes of the datagrams and the Puts, and how many locks each thread had.
 pub(crate) fn hold_back<N: Names + Send + Sync, R: Threads + Wait + Copy + Send + Sync>(
     rt: &R,
     alloc: Global,
@@ -40,7 +40,7 @@ pub(crate) fn hold_back<N: Names + Send + Sync, R: Threads + Wait + Copy + Send 
     push_line(text, "points and held", &[gate.points(), gate.met()])
 }
 
-// What came of an event, and the points that its thread reached.
+// The outcome of an event, and the points that its thread reached.
 #[derive(Clone, Copy)]
 struct Noted {
     said: Said,

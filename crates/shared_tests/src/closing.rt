@@ -15,12 +15,12 @@ use std::thread;
 use std::thread::Threads;
 use user_queues::{LaneOutlet, UserPort};
 
-// Whether a lane took a datagram.
+// Whether a lane accepted a datagram.
 fn is_taken<N: Names, R: Wait + Copy>(rt: &R, entity: &Entity<N, R>, octets: &[u8]) -> bool {
     matches!(&entity.deliver(rt, &NoGate, octets), Ok(Ok(_)))
 }
 
-// Whether both datagrams of a file were taken.
+// Whether both datagrams of a file were accepted.
 fn deliver_both<N: Names, R: Wait + Copy>(rt: &R, entity: &Entity<N, R>, seq: u8) -> bool {
     is_taken(rt, entity, &metadata(1, seq)) && is_taken(rt, entity, &eof(1, seq))
 }

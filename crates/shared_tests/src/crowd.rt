@@ -16,8 +16,8 @@ use std::thread;
 use std::thread::Threads;
 use user_queues::UserPort;
 
-// What each thread does: four deliver, of the lanes of a source each the even or the odd one; two report that the files
-// of a source are stored; one puts from all sending lanes, and one pumps. Each lane runs two transactions.
+// What each thread does. Four deliver, each to the even or the odd lane of a source; two report that the files of a
+// source are stored; one puts from all sending lanes, and one pumps. Each lane runs two transactions.
 const WORK: [&[Act]; 8] = [
     &[
         Act::Metadata(1, 5),
@@ -100,7 +100,7 @@ enum Job {
     Take(UserPort),
 }
 
-// The outcome of a job: whether all events were taken, or what a user took.
+// The outcome of a job: whether all events were accepted, or what a user took.
 #[derive(Clone, Copy)]
 enum Came {
     Worked(bool),
@@ -118,7 +118,7 @@ fn jobs(alloc: Global, ports: Vec<UserPort>) -> Result<Vec<Job>, AllocError> {
     Ok(jobs)
 }
 
-// Passes events to their lanes, each once the one before was taken.
+// Passes events to their lanes, each once the one before was accepted.
 fn work<N: Names, R: Wait + Copy>(
     rt: &R,
     alloc: Global,
@@ -167,7 +167,7 @@ fn run<N: Names, R: Wait + Copy>(
     }
 }
 
-/// Has the threads work while the users take. Adds how many worked well, and what each user took.
+/// Has the threads work while the users take. Adds whether each thread worked well, and what each user took.
 pub(crate) fn crowd<N: Names + Send + Sync, R: Threads + Wait + Copy + Send + Sync>(
     rt: &R,
     alloc: Global,

@@ -70,8 +70,8 @@ fn rest_of(made: Result<Done, DepositRest>) -> Option<DepositRest> {
     made.err()
 }
 
-// Adds a line: that the lane was told; or whether the store was asked, what it answered, and why the deposit came no
-// further.
+// Adds a line: that the lane was notified; or whether the store was asked, what it answered, and why the deposit came
+// no further.
 fn push_rest(text: &mut String, rest: &Option<DepositRest>) -> Result<(), AllocError> {
     match rest {
         None => push_line(text, "told", &[]),

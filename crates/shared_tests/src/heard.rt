@@ -65,7 +65,7 @@ impl Heard {
         push_line(text, "others", &[self.others])
     }
 
-    /// Adds these lines with the digits of each lane's last bundle alone, below how many bundles there were.
+    /// Adds these lines with the digits of each lane's last bundle alone, after the number of the lane's bundles.
     pub(crate) fn push_ends(&self, text: &mut String) -> Result<(), AllocError> {
         let ([a, b, c, d], [k, l, m, n]) = (self.lanes, self.counts);
         let ends = [end_of(k, a), end_of(l, b), end_of(m, c), end_of(n, d)];

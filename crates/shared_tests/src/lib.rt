@@ -1,4 +1,4 @@
-//! The behaviour of an entity that threads share, and of workers round it: the answer to each call, the indications
+//! The behaviour of an entity that threads share, and of workers around it: the answer to each call, the indications
 //! that its users take, and that its lanes and its workers run side by side.
 #![tactic(auto)]
 

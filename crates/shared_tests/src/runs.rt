@@ -30,7 +30,7 @@ pub(crate) enum Run {
     Working(Shift),
 }
 
-/// The text of a run, line by line, where the queue of each user holds so many bundles.
+/// The text of a run, line by line, where the queue of each user holds this many bundles.
 pub(crate) fn play<R: Threads + Wait + AllocGlobal + Copy + Send + Sync>(
     rt: R,
     capacity: u16,

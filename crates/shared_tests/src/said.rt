@@ -1,4 +1,4 @@
-//! What comes of an event, as a value that is copied.
+//! The outcome of an event, as a value that can be copied.
 
 use cfdp_types::{Deposit, TimerKind, TimerOp};
 use lane_table::{Done, Refused};

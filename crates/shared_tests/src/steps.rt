@@ -214,7 +214,7 @@ fn word_of(told: &Indication) -> &'static str {
     }
 }
 
-// Alice's lanes that put, and the lanes in which she and bob receive odd numbers.
+// Alice's lanes that put, bob's first one, and the lane in which alice receives odd numbers.
 const PUTS: Place = Place { user: 0, lane: 0 };
 
 const PUTS_TOO: Place = Place { user: 0, lane: 1 };
@@ -452,7 +452,7 @@ store 3 1
 files 2 0 2
 ";
 
-// The lane of the file that the store doesn't keep is told so, and no other.
+// The lane of the file that the store doesn't keep is notified of that, and no other lane.
 #[test]
 fn a_store_that_fails(rt: HostRuntime) -> Result<(), Fail> {
     for (fails_at, said) in [(1, FIRST_FAILS), (2, SECOND_FAILS), (3, THIRD_FAILS)] {

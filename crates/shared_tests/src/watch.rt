@@ -56,7 +56,7 @@ impl<R: Wait> Watch<R> {
         self.arrived.fetch_add(1, Ordering::SeqCst);
     }
 
-    /// Waits until so many threads have arrived; returns whether they did.
+    /// Waits until this many threads have arrived, and returns whether they did.
     pub(crate) fn waits_for(&self, wanted: u64) -> bool {
         for _ in 0..TURNS {
             if self.arrived.load(Ordering::SeqCst) >= wanted {
@@ -72,13 +72,13 @@ impl<R: Wait> Watch<R> {
         self.met.load(Ordering::SeqCst)
     }
 
-    /// How often its threads had the lock of a lane of the first user, and, a hundred times as much, of the second;
-    /// and how often they took a datagram, ten thousand times as much.
+    /// How often its threads locked a lane of the first user, plus a hundred times how often they locked one of another
+    /// user, plus ten thousand times how often they took a datagram.
     pub(crate) fn points(&self) -> u64 {
         self.points.load(Ordering::SeqCst)
     }
 
-    // Holds a thread. Then it waits a while longer, in which no other may have what it has.
+    // Holds a thread. Then it waits a while longer; meanwhile no other thread may have what it has.
     fn hold(&self) {
         self.arrive();
         if self.waits_for(self.wanted) {

@@ -20,8 +20,8 @@ use std::thread;
 use std::thread::Threads;
 use user_queues::UserPort;
 
-/// How many workers there are, how many datagrams may wait for them, and the datagrams. A worker with a datagram may have
-/// to wait until so many have one.
+/// How many workers there are, how many datagrams may wait for them, and the datagrams. A worker with a datagram may
+/// have to wait until `together` workers have one.
 #[derive(Clone, Copy)]
 pub(crate) struct Shift {
     workers: usize,
@@ -66,7 +66,7 @@ fn send_all<R: Wait>(rt: &R, send: IntakeSend, datagrams: &[&[u8]]) -> bool {
     true
 }
 
-// Has workers bring datagrams to their lanes; gives their keepers.
+// Has workers bring datagrams to their lanes, and returns their keepers.
 fn work<N: Names + Send + Sync, R: Threads + Wait + Copy + Send + Sync>(
     rt: &R,
     alloc: Global,
@@ -87,8 +87,8 @@ fn work<N: Names + Send + Sync, R: Threads + Wait + Copy + Send + Sync>(
     Ok(if sent { back } else { None })
 }
 
-// Adds how many workers came back, how many answers they had, how many of these were steps, and how many workers met;
-// gives the deposits.
+// Adds how many workers came back, how many answers they had, how many of these were steps, and how many workers met.
+// Returns the deposits.
 fn push_back(
     alloc: Global,
     text: &mut String,
@@ -110,7 +110,7 @@ fn push_back(
     Ok(deposits)
 }
 
-/// Has workers bring datagrams to their lanes, and stores the files that came. Adds lines for the workers, for the
+/// Has workers bring datagrams to their lanes, and stores the received files. Adds lines for the workers, for the
 /// store, and for what each user took.
 pub(crate) fn run_shift<N: Names + Send + Sync, R: Threads + Wait + Copy + Send + Sync>(
     rt: &R,
@@ -132,7 +132,7 @@ pub(crate) fn run_shift<N: Names + Send + Sync, R: Threads + Wait + Copy + Send 
     Ok(())
 }
 
-// Makes deposits. Adds how many were made and told to their lanes, and the files of the store.
+// Makes deposits. Adds how many were made and reported to their lanes, and the files of the store.
 fn push_stored<N: Names, R: Wait + Copy>(
     rt: &R,
     alloc: Global,

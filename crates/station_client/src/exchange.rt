@@ -32,7 +32,7 @@ impl Model for Exchange {
 }
 
 impl Exchange {
-    /// Without any line so far.
+    /// An exchange without any line yet.
     pub fn new(alloc: Global) -> Exchange
         ensures { result ≡ record { answer = []; events = [] } }
     {
@@ -54,7 +54,7 @@ impl Exchange {
         }
     }
 
-    // Adds a line of the answer.
+    // Adds a line of the reply.
     fn add_answer(&mut self, line: &[u8]) -> Result<(), StationFault>
         ensures ok { OnOk result (self.new ≡ with_line LineKind.Answer line.now self.old) }
         ensures err { OnErr result (self.new ≡ self.old) }

@@ -3,15 +3,15 @@ use std::alloc::AllocError;
 /// Why a station doesn't reply.
 #[derive(Clone, Copy, Debug, PartialEq, Eq)]
 pub enum StationFault {
-    /// Nobody listens at the path, or lets clients in.
+    /// Nobody listens at the path, or nobody lets clients in.
     NoServer,
     /// A socket can't have this path.
     BadPath,
-    /// The path may not be opened by this user.
+    /// This user may not open the path.
     Denied,
     /// The station has no free seat.
     Busy,
-    /// The station ended, or cut us off.
+    /// The station ended, or cut the connection.
     Gone,
     /// No whole reply came in time.
     TimedOut,

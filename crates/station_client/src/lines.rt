@@ -22,7 +22,7 @@ pub enum LineKind {
     Busy,
 }
 
-/// The kind of a line, which is without its line feed.
+/// The kind of a line, given without its line feed.
 pub fn kind_of(line: &[u8]) -> LineKind
     ensures { IsOfKind result line.now }
 {
@@ -71,7 +71,7 @@ impl Model for Incoming {
 }
 
 impl Incoming {
-    /// Without any octets.
+    /// No octets yet.
     pub fn new(alloc: Global) -> Incoming
         ensures { result ≡ [] }
     {

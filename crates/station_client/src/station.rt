@@ -17,8 +17,8 @@ const BLOCK_OCTETS: usize = 16 * 1024;
 // How many milliseconds to wait before the next attempt to connect.
 const REST_MILLIS: u64 = 50;
 
-/// A connection to a station's control socket. After a fault, every later call returns the same fault, except
-/// `BadCommand`, which changes nothing.
+/// A connection to a station's control socket. After a fault, every later call returns the same fault, but `next_event`
+/// first returns the events that had come. `BadCommand` changes nothing, and isn't kept.
 #[derive(Drop)]
 pub struct Station {
     alloc: Global,
@@ -70,7 +70,7 @@ impl Station {
         Err(StationFault::NoServer)
     }
 
-    /// Connects, sends one command and leaves; returns the command's reply. All that within the time limit.
+    /// Connects, sends one command and leaves, all within the time limit. Returns the command's reply.
     pub fn ask_once<R: Net + Clock + Wait>(
         rt: &R,
         alloc: Global,
@@ -83,8 +83,8 @@ impl Station {
         station.ask(rt, command, left_until(rt, until)?)
     }
 
-    /// Sends a command, a line without its line feed, and returns the lines of its reply, each with its line feed,
-    /// without the final dot. Events that come in between are kept for `next_event`.
+    /// Sends a command, given as a line without its line feed. Returns the lines of its reply, each with its line feed,
+    /// without the final dot. Keeps events that come in between for `next_event`.
     pub fn ask<R: Clock + Wait>(
         &mut self,
         rt: &R,
@@ -133,7 +133,7 @@ impl Station {
         outcome
     }
 
-    // Sends a command and reads until the end of its answer.
+    // Sends a command and reads until the end of its reply.
     fn exchange_line<R: Clock + Wait>(
         &mut self,
         rt: &R,
@@ -181,7 +181,7 @@ impl Station {
         Ok(self.exchange.take_event())
     }
 
-    // Reads the next line and adds it to the exchange; answers its kind.
+    // Reads the next line and adds it to the exchange; returns its kind.
     fn read_line<R: Clock + Wait>(
         &mut self,
         rt: &R,
@@ -219,7 +219,7 @@ impl Station {
     }
 }
 
-// The moment at which a time limit from now ends, by the system's own clock.
+// The moment at which a time limit from now ends, by the system's monotonic clock.
 fn moment_behind<R: Clock>(rt: &R, limit: Duration) -> Result<Duration, StationFault> {
     let now = rt.monotonic().map_err(|_| StationFault::System)?;
     Ok(now.saturating_add(limit))

@@ -182,7 +182,7 @@ skipped_line head skipped = line_of (head_members head (codes "skipped") ++ skip
 abbrev pub journal_full_members : List ℕ → TxnKey → List Token
 journal_full_members user key = text_member (codes "user") user ++ key_members key
 
--- the line of a transaction that was abandoned since its journal is full
+-- the line of a transaction that was abandoned because its journal is full
 abbrev pub journal_full_line : EventHead → List ℕ → TxnKey → List ℕ
 journal_full_line head user key = line_of (head_members head (codes "journal-full") ++ journal_full_members user key)
 

@@ -7,7 +7,7 @@ use Rattle.std.specs.Str.{chars}
 abbrev pub is_between : ℕ → ℕ → ℕ → Bool
 is_between least most number = nat_le least number && nat_le number most
 
--- a character that a terminal obeys and JSON has as it is, or that turns the direction of the text around it
+-- a character that a terminal obeys and JSON leaves as it is, or that turns the direction of the text around it
 abbrev pub is_unsafe : ℕ → Bool
 is_unsafe code = is_between 0x7f 0x9f code || code == 0x61c || is_between 0x200e 0x200f code || is_between 0x202a 0x202e code || is_between 0x2066 0x2069 code
 
@@ -23,6 +23,6 @@ safe_char code = if is_unsafe code then escape code else encode_utf8 code
 unfoldable pub safe_text : List ℕ → List ℕ
 safe_text text = flat_map safe_char (chars text)
 
--- an octet of ASCII that is a character which stays as it is
+-- an octet of ASCII whose character stays as it is
 abbrev pub is_plain : ℕ → Bool
 is_plain octet = nat_lt octet 127

@@ -22,7 +22,7 @@ finished_members condition delivery status =
     number_member (codes "condition") condition
     ++ (text_member (codes "delivery") (delivery_name delivery) ++ text_member (codes "status") (status_name status))
 
--- the number of a decode fault, if it is one
+-- the number of a decode fault, if there is one
 abbrev pub fault_members : Option ℕ → List Token
 fault_members None = []
 fault_members (Some fault) = number_member (codes "fault") fault

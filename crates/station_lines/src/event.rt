@@ -69,15 +69,15 @@ pub struct CommandEvent<'a> {
     pub reason: Option<&'a str>,
 }
 
-/// Transaction numbers that were used up without a file, since a user's numbers lagged behind those used toward a remote
-/// entity.
+/// Transaction numbers that were used up without a file, because a user's numbers lagged behind those used toward a
+/// remote entity.
 #[derive(Clone, Copy, Debug)]
 pub struct SkippedEvent<'a> {
     /// The user's name.
     pub user: &'a str,
     /// The remote entity.
     pub destination: EntityId,
-    /// How many numbers they were.
+    /// How many numbers were used up.
     pub count: u64,
     /// The next number of their lane.
     pub next: u64,

@@ -279,7 +279,7 @@ pub fn push_hold_event(
     push_about_remote(alloc, text, head, kind::HOLD, id)
 }
 
-/// Adds the line of a hold that was planned: the time is over for which the link to a remote entity was open.
+/// Adds the line of a planned hold: the time for which the link to a remote entity was open is over.
 pub fn push_planned_hold_event(
     alloc: Global,
     text: &mut String,
@@ -407,7 +407,7 @@ fn asker_members(line: &mut Line, seat: Option<u64>) -> Result<(), AllocError>
     }
 }
 
-/// Adds the line of a user's transaction that was abandoned since its journal is full.
+/// Adds the line of a user's transaction that was abandoned because its journal is full.
 pub fn push_journal_full_event(
     alloc: Global,
     text: &mut String,

@@ -6,7 +6,8 @@ ghost use Rattle.station_lines.specs.Letters.{escape, is_plain, is_unsafe, safe_
 
 use std::alloc::AllocError;
 
-/// Appends a text. Each character that a terminal would obey, or that turns the direction of text, is replaced by its escape.
+/// Appends a text, with an escape in place of each control character that JSON leaves as it is, and of each character
+/// that turns the direction of text.
 #[tactic(auto, using(crate::proofs::PlainTexts::safe_text_plain))]
 pub(crate) fn push_safe(text: &mut String, added: &str) -> Result<(), AllocError>
     ensures added { OnOk result (string_bytes text.new ≡ string_bytes text.old ++ safe_text added.now) }
@@ -75,7 +76,7 @@ fn hex_digit(number: u32) -> char
     }
 }
 
-// A control character that JSON has as it is, or one that turns the direction of text.
+// Whether a character is a control character that JSON leaves as it is, or one that turns the direction of text.
 fn is_unsafe(letter: char) -> bool
     ensures { result ≡ is_unsafe letter }
 {

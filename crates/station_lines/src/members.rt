@@ -40,7 +40,7 @@ pub struct Datagram<'a> {
 pub struct RefusedPdu<'a> {
     /// Its transaction, if the octets name one.
     pub key: Option<TxnKey>,
-    /// The kind of the PDU, or that it is none.
+    /// The kind of the PDU, or that the octets aren't a PDU.
     pub kind: &'a str,
 }
 

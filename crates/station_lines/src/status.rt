@@ -39,7 +39,7 @@ pub struct Counters {
     pub failed_sends: u64,
     /// Reads from the socket that failed.
     pub failed_reads: u64,
-    /// Workers that stopped reading; 0 since none does.
+    /// Workers that stopped reading: always 0, because none does.
     pub ended_reads: u64,
     /// Datagrams from an address that isn't in the configuration.
     pub foreign_datagrams: u64,
@@ -89,7 +89,7 @@ pub struct TransactionStatus<'a> {
     pub last: Option<Moment>,
     /// How it ended, if the server saw its end.
     pub ending: Option<Ending>,
-    /// What an operator should do about the transaction or its lane.
+    /// What an operator should know of the transaction or its lane, if anything.
     pub notice: Option<Notice>,
     /// How many octets a file being received lacks, if that is counted.
     pub missing: Option<u64>,
@@ -165,9 +165,9 @@ pub struct ParkedStatus<'a> {
     pub lane: usize,
     /// How many datagrams wait.
     pub datagrams: u64,
-    /// Of how many transactions they are.
+    /// How many transactions they belong to.
     pub transactions: u64,
-    /// How much of the room they take up.
+    /// How many octets of the room they take up.
     pub octets: u64,
     /// How many datagrams were dropped for want of room or memory, since the server's start.
     pub dropped: u64,
@@ -183,7 +183,7 @@ pub struct RemoteStatus<'a> {
     pub address: Option<&'a str>,
     /// Since when nothing is sent to it, if it is held.
     pub held_since: Option<Moment>,
-    /// Until when its link is open, if that is for a time.
+    /// Until when its link is open, if it is open only for a time.
     pub open_until: Option<Moment>,
     /// Datagrams that came from its address.
     pub datagrams_in: u64,
@@ -215,11 +215,11 @@ pub struct EndedStatus {
     /// Their class, or 0 if the server doesn't know it.
     pub class: u8,
     pub condition: u8,
-    /// How many they are.
+    /// How many there are.
     pub count: u64,
 }
 
-/// Files that came whole and were retained, as this end's role in their transactions goes.
+/// Files that came whole and were retained, in transactions in which this end has this role.
 #[derive(Clone, Copy, Debug)]
 pub struct DeliveredStatus {
     pub end: Side,

@@ -419,7 +419,8 @@ fn since_members(line: &mut Line, since: Option<Moment>) -> Result<(), AllocErro
     }
 }
 
-/// Adds the line of a kind of refusal, with the moment of the last one, and what its datagram says about its PDU, if that is shown.
+/// Adds the line of a kind of refusal, with the moment of the last one, and what its datagram says about its PDU, if
+/// that is shown.
 pub fn push_refusal(
     alloc: Global,
     text: &mut String,

@@ -1,4 +1,4 @@
-//! The kinds of lines: the texts of their members `kind`.
+//! The kinds of lines: the values of the member `kind`.
 
 // of the lines of a status
 pub const ENTITY: &str = "entity";
@@ -25,7 +25,7 @@ pub const NOTE: &str = "note";
 
 pub const RECORDER: &str = "recorder";
 
-// of those that show what a server counts where that is asked for
+// of the lines that show what a server counts, if it is asked to
 pub const ENDED: &str = "ended";
 
 pub const DELIVERED: &str = "delivered";

@@ -1,4 +1,4 @@
-//! The names of members, by the lines where they came first; other lines have some of them too.
+//! The names of members, grouped by the lines that had them first. Other lines have some of them too.
 
 // what each line begins with, and what each event begins with
 pub const KIND: &str = "kind";
@@ -170,7 +170,7 @@ pub const MISSED: &str = "missed";
 
 pub const FAILED: &str = "failed";
 
-// what a server counts where that is asked for
+// what a server counts, if it is asked to
 pub const FILES: &str = "files";
 
 pub const MICROSECONDS: &str = "microseconds";

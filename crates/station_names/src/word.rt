@@ -1,4 +1,4 @@
-//! Texts of other members that programs compare.
+//! Values of other members that programs compare.
 
 // this end's role in a transaction
 pub const SENDER: &str = "sender";

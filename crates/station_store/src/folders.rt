@@ -8,8 +8,9 @@ ghost use Rattle.whole_files.specs.Wholes.{folder_at};
 use disk::{Disk, Fault};
 use whole_files::{folder_at, folder_of};
 
-/// Makes the missing folders on the path of a file. An existing one must be a folder, not a link to one. Flushed is the
-/// folder above one that was made, and above one that isn't on the path `known`, whose folders stay.
+/// Makes the missing folders on the path of a file. What is there already must be a folder, not a link to one. The
+/// folder above is flushed for each folder that was made, and for each that isn't on the path `known`. The folders on
+/// `known` are known to stay.
 pub fn reach<D: Disk>(disk: &mut D, known: &str, path: &str) -> Result<(), Fault>
     requires { IsReached (D.done disk.old) known.now }
     ensures same { Unchanged (D.done disk.old) (D.done disk.new) }
@@ -34,7 +35,8 @@ fn is_on(path: &str, end: usize, folder: &str) -> bool
     }
 }
 
-// Makes a folder that is missing, so that it stays. It is known whether it stays if it is there.
+// Makes a folder if it is missing, so that it stays. `is_known` means that the folder, if it is there, is known to
+// stay.
 fn reach_folder<D: Disk>(disk: &mut D, folder: &str, is_known: bool) -> Result<(), Fault>
     requires { is_known ≡ true → stays (D.done disk.old) folder.now }
     ensures same { Unchanged (D.done disk.old) (D.done disk.new) }
@@ -47,7 +49,7 @@ fn reach_folder<D: Disk>(disk: &mut D, folder: &str, is_known: bool) -> Result<(
     disk.flush_folder(folder_of(folder))
 }
 
-// Makes a folder, unless it is there; answers whether it was made.
+// Makes a folder unless it is there, and returns whether it was made.
 fn make_missing<D: Disk>(disk: &mut D, folder: &str) -> Result<bool, Fault>
     ensures same { Unchanged (D.done disk.old) (D.done disk.new) }
     ensures ok { OnOk result (stands (D.done disk.new) folder.now) }
@@ -59,7 +61,7 @@ fn make_missing<D: Disk>(disk: &mut D, folder: &str) -> Result<bool, Fault>
     }
 }
 
-// An error unless there is a folder at this path, else false.
+// Returns false if there is a folder at this path, otherwise an error.
 fn require_folder<D: Disk>(disk: &mut D, folder: &str) -> Result<bool, Fault>
     ensures same { Unchanged (D.done disk.old) (D.done disk.new) }
     ensures ok { OnOk result (stands (D.done disk.new) folder.now) }
@@ -71,7 +73,7 @@ fn require_folder<D: Disk>(disk: &mut D, folder: &str) -> Result<bool, Fault>
     }
 }
 
-/// An error if there is a folder where a file should go.
+/// Returns an error if there is a folder where a file should go.
 pub fn refuse_folder<D: Disk>(disk: &mut D, path: &str) -> Result<(), Fault>
     ensures { Unchanged (D.done disk.old) (D.done disk.new) }
 {

@@ -9,22 +9,22 @@ use disk::{Disk, Fault};
 use std::alloc::Global;
 use whole_files::{keep_file, replace_file};
 
-/// A received file: its path below the store's folder, and its octets.
+/// A file to be kept: its path below the store's folder, and its octets.
 #[derive(Clone, Copy, Debug)]
-pub struct ReceivedFile<'a> {
+pub struct FileToKeep<'a> {
     pub path: &'a str,
     pub octets: &'a [u8],
 }
 
 /// Keeps a file under its path, or as a numbered copy there, and returns the path of what it kept. The folders on the
-/// path `known` are known to stay. Parts are numbered from `next` on, and `next` is the number behind the last that was
-/// tried.
+/// path `known` are known to stay. Parts are numbered from `next` on; afterwards `next` is the number after the last
+/// one tried.
 pub fn keep_at<D: Disk>(
     disk: &mut D,
     alloc: Global,
     clash: Clash,
     known: &str,
-    file: &ReceivedFile<'_>,
+    file: &FileToKeep<'_>,
     next: &mut u64,
 ) -> Result<String, Fault>
     requires { IsReached (D.done disk.old) known.now }
@@ -34,7 +34,7 @@ pub fn keep_at<D: Disk>(
     ensures holds { IfOk result (λ place. HoldsAfterCut (D.done disk.new) (string_bytes place) file.now.octets.now) }
     ensures reached { IfOk result (λ place. IsReached (D.done disk.new) (string_bytes place)) }
 {
-    let ReceivedFile { path, octets } = *file;
+    let FileToKeep { path, octets } = *file;
     reach(disk, known, path)?;
     refuse_folder(disk, path)?;
     match clash {
@@ -43,7 +43,7 @@ pub fn keep_at<D: Disk>(
     }
 }
 
-// Keeps a file in place of the one that is there, and returns its path.
+// Keeps a file, which replaces an existing one, and returns its path.
 fn replace<D: Disk>(
     disk: &mut D,
     alloc: Global,

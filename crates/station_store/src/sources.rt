@@ -11,11 +11,11 @@ use disk::{Disk, Fault, Hindrance};
 use file_stores::{Filestore, StoreFault};
 use std::alloc::{AllocError, Global};
 
-/// A store that keeps the files of each source in a folder of the source's ID, as a plain store would in that folder. It is
-/// told whose files come next.
+/// A store that keeps the files of each source in a folder named by the source's ID, as a plain store would in that
+/// folder. The caller says whose files come next.
 #[derive(Drop)]
 pub struct SourceStore<D: Disk + Drop> {
-    /// The plain store, which the names in the sources' folders are given to.
+    /// The plain store. Each name that it gets begins with a source's folder.
     pub store: StationStore<D>,
     /// Which names are valid in a source's folder.
     pub layout: Layout,
@@ -38,7 +38,7 @@ impl<D: Disk + Drop> SourceStore<D> {
         }
     }
 
-    /// The files that come next are of this source.
+    /// Sets the source of the files that come next.
     pub fn enter(&mut self, source: EntityId)
         ensures { self.new ≡ record self.old { source = source } }
     {
@@ -68,7 +68,8 @@ impl<D: Disk + Drop> SourceStore<D> {
         self.store.hindrance()
     }
 
-    /// Why the file that was prepared or deposited last isn't kept, as [`StationStore::fault`] says.
+    /// Why the file that was prepared or deposited last isn't kept, as [`StationStore::fault`] says; `None` also where
+    /// a deposit found no memory for the file's name.
     pub fn fault(&self) -> Option<Fault>
         ensures { result ≡ self.now.store.fault }
     {

@@ -3,7 +3,7 @@ ghost use Rattle.std.specs.Option.{option_map};
 ghost use Rattle.station_store.specs.Sources.{forgotten, refused};
 ghost use Rattle.station_store.specs.Stations.{ready_place, Prepares};
 
-use crate::keeping::{ReceivedFile, keep_at};
+use crate::keeping::{FileToKeep, keep_at};
 use crate::names::path_of;
 use crate::prepared::Prepared;
 use crate::settings::{Clash, Layout};
@@ -15,7 +15,7 @@ use std::marker::Model;
 
 /// A store that keeps files in the folder of a disk, or in folders below it, and replaces or keeps existing files. A
 /// file is written to a part next to its place, flushed, and named once it is complete, so that no incomplete file is
-/// seen under its name. Then its folder is flushed; only after that it counts as kept.
+/// seen under its name. Then its folder is flushed; only after that does it count as kept.
 ///
 /// A file may be prepared before it is deposited, any number of times: a fault that may pass then costs no deposit.
 #[derive(Drop)]
@@ -97,8 +97,8 @@ impl<D: Disk + Drop> StationStore<D> {
         self.fault
     }
 
-    /// What hindered the store last, if anything did. Where there was no memory to remember a file that is prepared, it says so;
-    /// else it is what hindered the disk.
+    /// What hindered the store last, if anything did: `NoMemory` if there was no memory for the name or the copies of
+    /// the file that was prepared last, otherwise what hindered the disk.
     pub fn hindrance(&self) -> Option<Hindrance> {
         if self.is_short {
             Some(Hindrance::NoMemory)
@@ -107,7 +107,7 @@ impl<D: Disk + Drop> StationStore<D> {
         }
     }
 
-    /// Forgets the file that is ready, for a file that isn't tried; a fault is that memory ran out.
+    /// Forgets the ready file, because another file isn't tried. A fault means that memory ran out.
     pub(crate) fn forget(&mut self, fault: Option<Fault>)
         ensures { self.new ≡ forgotten fault self.old }
     {
@@ -144,7 +144,7 @@ impl<D: Disk + Drop> StationStore<D> {
             self.fault = Some(Fault::MayPass);
             return Prepared::Later;
         };
-        let file = ReceivedFile {
+        let file = FileToKeep {
             path,
             octets: octets.as_slice(),
         };
@@ -210,7 +210,7 @@ impl<D: Disk + Drop> Filestore for StationStore<D> {
             self.failures += 1;
             return Err(StoreFault::BadName);
         };
-        let file = ReceivedFile { path, octets };
+        let file = FileToKeep { path, octets };
         match keep_at(
             &mut self.disk,
             self.alloc,
@@ -240,7 +240,7 @@ impl<D: Disk + Drop> Filestore for StationStore<D> {
     }
 }
 
-// The path of the file that is ready, if it has this name and these octets: `None` within if it can't be kept.
+// The path of the ready file, if it has this name and these octets; `Some(None)` if that file can't be kept.
 fn ready_place(ready: Option<TriedFile>, name: &[u8], octets: &[u8]) -> Option<Option<String>>
     ensures { option_map (option_map string_bytes) result ≡ ready_place ready name.now octets.now }
 {

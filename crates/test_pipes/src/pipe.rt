@@ -38,8 +38,8 @@ impl Pipe {
         self.came.notify_all();
     }
 
-    /// Waits for the next line, without its line feed; `None` once the pipe is closed, or if nothing comes for this
-    /// many seconds.
+    /// Waits for the next line, without its line feed. `None` once the pipe is closed, or if nothing comes for this
+    /// many seconds, or if memory runs out.
     pub fn line<R: Wait + Clock>(&self, rt: &R, alloc: Global, seconds: u64) -> Option<String> {
         let mut line = String::new(alloc);
         let mut held = self.held.lock(rt);

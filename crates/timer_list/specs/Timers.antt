@@ -16,7 +16,7 @@ is_key key other = (key.source.0 == other.source.0) && (key.seq == other.seq)
 abbrev pub is_for : TxnKey → TimerKind → Armed → Bool
 is_for key kind timer = is_key key timer.key && is_kind kind timer.kind
 
--- the time so many milliseconds from now, but at most the greatest 64-bit number
+-- the time this many milliseconds from now, but at most the greatest 64-bit number
 abbrev pub moment_after : ℕ → ℕ → ℕ
 moment_after now ms = min (now + ms) 18446744073709551615
 

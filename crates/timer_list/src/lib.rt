@@ -1,4 +1,4 @@
-//! The running timers, in the order in which they were armed.
+//! The running timers, in the order in which they were added. A timer that is armed again keeps its place.
 #![tactic(auto)]
 
 mod armed;

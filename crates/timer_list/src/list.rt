@@ -43,8 +43,8 @@ impl TimerList {
         }
     }
 
-    /// Reserves memory, so that as many timers may run at once as given, and none of them finds no memory. For each of them it
-    /// has four places: those of timers that were removed are dropped once they are as many as the others.
+    /// Reserves memory for this many timers to run at once, so that none of them runs out of memory. It reserves four
+    /// places for each, because places of removed timers are dropped only once they are more than the others.
     pub fn reserve(&mut self, timers: usize) -> Result<(), AllocError>
         ensures { self.new ≡ self.old }
     {
@@ -122,7 +122,8 @@ impl TimerList {
     }
 
     /// A time before which no timer expires, on the caller's clock. It is exact, or the greatest 64-bit number where no
-    /// timer runs, if `due` has returned None since timers were last removed or armed again.
+    /// timer runs, if `due` has searched the whole list since timers were last removed or armed again, and no later
+    /// attempt to arm one failed or came from an earlier step.
     pub fn soonest(&self) -> u64
         ensures { IsTrue (none_before result self.now) }
     {

@@ -1,7 +1,7 @@
 use crate::armed::Armed;
 use cfdp_types::{TimerKind, TxnKey};
 
-/// A place in the list: that of a timer, or one that is no longer used.
+/// A place in the list: a timer's, or one that is no longer used.
 #[derive(Clone, Copy, PartialEq, Eq, Hash)]
 pub(crate) enum Slot {
     Timer { key: TxnKey, kind: TimerKind },

@@ -8,8 +8,8 @@ use cfdp_types::{TimerKind, TxnKey};
 use indexmap::IndexMap;
 use std::alloc::{AllocError, Global};
 
-/// The places of the list, in order. A timer that is removed leaves its place unused; unused places are dropped
-/// when there are as many of them as used ones.
+/// The places of the list, in order. A timer that is removed leaves its place unused; unused places are dropped when
+/// there are more of them than used ones.
 #[derive(Drop)]
 pub(crate) struct Slots {
     pub(crate) entries: IndexMap<Slot, Option<Run>>,
@@ -37,7 +37,7 @@ impl Slots {
         }
     }
 
-    /// Reserves memory for so many more places.
+    /// Reserves memory for this many more places.
     pub(crate) fn reserve(&mut self, places: usize) -> Result<(), AllocError>
         ensures { self.new.entries.entries ≡ self.old.entries.entries }
     {

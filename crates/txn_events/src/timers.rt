@@ -108,9 +108,8 @@ impl Tries {
         inactivity: 0,
     };
 
-    /// The counts after an event with these indications. All begin again where the transaction is resumed; a
-    /// timer's count begins again where its fault is ignored, or where `resets` says so; otherwise an expiration
-    /// adds one.
+    /// The counts after an event with these indications. All begin again where the transaction is resumed. A timer's
+    /// count begins again where its fault is ignored, or where `resets` says so. Otherwise an expiration adds one.
     pub fn after(self, event: &What, inds: &[Indication], resets: CountResets) -> Tries
         requires { AreUpTo JOURNAL_ENTRIES self }
         ensures { (kind : TimerKind)

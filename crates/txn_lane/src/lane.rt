@@ -94,7 +94,7 @@ impl Lane {
         }
     }
 
-    /// The key of the transaction that the lane runs or ran last.
+    /// The key of the transaction that the lane runs or ran last; None where it has opened none.
     pub fn key(&self) -> Option<TxnKey>
         ensures { result ≡ key_of self.now }
     {
@@ -102,7 +102,7 @@ impl Lane {
         self.last.map(|seq| TxnKey { source, seq })
     }
 
-    /// The events that this transaction has accepted, in order.
+    /// The events that the transaction of `key` has accepted, in order; empty where there is none.
     pub fn journal(&self) -> &[Event]
         ensures events { result.now ≡ self.now.journal }
         ensures limit { length result.now ≤ JOURNAL_ENTRIES }
@@ -113,7 +113,7 @@ impl Lane {
         }
     }
 
-    /// All indications of this transaction, in order.
+    /// All indications of the transaction of `key`, in order; empty where there is none.
     pub fn trace(&self) -> &[Indication]
         ensures { result.now ≡ issued_by self.now }
     {
@@ -189,8 +189,8 @@ impl Lane {
         }
     }
 
-    /// Handles an event. The step's indications are offered to the outlet, and the step is made only if they are
-    /// accepted. An event that is refused changes nothing.
+    /// Handles an event. Offers the step's indications to the outlet, and makes the step only if they are accepted. A
+    /// refused event changes nothing.
     pub fn step<O: Outlet>(&mut self, event: &Event, outlet: &mut O) -> Result<Done, Refused>
         requires keyed { IsKeyed event.now }
         requires outlet { IsOutletOf O.user O.lane O.stands self.old outlet.old }

@@ -1,4 +1,4 @@
-//! What a lane answers to a Put before there is an event for it.
+//! Whether a lane refuses a Put, before there is an event for it.
 use crate::lane::Lane;
 use crate::lane_refusals::{plainly, refused_put};
 use cfdp_types::PutRequest;
@@ -12,8 +12,8 @@ impl Lane {
     ghost use Rattle.txn_events.specs.declared.event.Event.TheVariants.{Put};
     ghost use Rattle.lane_table.specs.Steps.{refusal_at};
 
-    /// Why the lane would refuse a Put of this request, with any parameters. For a caller that has no memory to make
-    /// the event.
+    /// Why the lane would refuse a Put of this request, whatever its parameters. For a caller that has no memory to
+    /// make the event.
     pub fn refuses_put(&self, request: &PutRequest) -> Option<Refused>
         ensures { (params : ParamsParts) → result ≡ refusal_at self.now (Put request.now params) }
     {

@@ -24,7 +24,7 @@ pub fn is_address(path: &str) -> bool
     !path.is_empty() && path.len() <= PATH_OCTETS && !path.contains(&0)
 }
 
-/// Connects a socket to a path, in one try. A path that can't be an address is an invalid input.
+/// Connects a socket to a path, in one try. Returns `InvalidInput` for a path that can't be an address.
 pub fn connect_to(socket: &UnixStream, path: &str) -> io::Result<()> {
     if !is_address(path) {
         return Err(ErrorKind::InvalidInput.into());

@@ -6,12 +6,12 @@ use Rattle.queue_rule.specs.declared.view.PortView.{PortView}
 use Rattle.queue_rule.specs.Views.{with_lane, next_outlet}
 use Rattle.user_queues.specs.Shared.{OutletEnd, PortEnd}
 
--- nothing is known yet of so many lanes
+-- nothing is known yet of this many lanes
 abbrev pub unknown : ℕ → List (Option (List Bundle))
 unknown zero = []
 unknown (suc lanes) = unknown lanes ++ None ∷ []
 
--- the port of a user with so many lanes, from which nothing was taken
+-- the port of a user with this many lanes, from which nothing was taken
 abbrev pub fresh_port : ℕ → ℕ → ℕ → PortView
 fresh_port user lanes room = record { user = user; room = room; taken = []; known = unknown lanes }
 
@@ -20,7 +20,7 @@ abbrev pub fresh_outlet : TableId → ℕ → ℕ → ℕ → OutletEnd
 fresh_outlet queue user room lane =
     record { queue = queue; knows = record { user = user; room = room; lane = lane; sent = [] } }
 
--- the outlets of so many lanes, in order
+-- the outlets of this many lanes, in order
 abbrev pub fresh_outlets : TableId → ℕ → ℕ → ℕ → List OutletEnd
 fresh_outlets queue user room zero = []
 fresh_outlets queue user room (suc lanes) = fresh_outlets queue user room lanes ++ fresh_outlet queue user room lanes ∷ []

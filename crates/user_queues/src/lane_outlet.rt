@@ -5,7 +5,7 @@ use std::marker::Model;
 use std::sync::{Arc, Wait};
 
 /// An outlet of a queue that threads share: the end into which one lane of the user puts its bundles. Contracts see
-/// which queue it is, whose lane it is, and all that the lane has sent.
+/// the queue, the user and the lane, and all that the lane has sent.
 #[derive(Drop)]
 pub struct LaneOutlet<R: Copy> {
     rt: R,

@@ -7,8 +7,8 @@ use indications::Bundle;
 use std::alloc::{AllocError, Global};
 use std::marker::Model;
 
-/// A user's queue for one thread, a ring of bundles. Contracts see whose it is, how many lanes the user has, how
-/// many bundles there is room for, and the bundles held, from the front on.
+/// A user's queue for one thread, a ring of bundles. Contracts see the user, how many lanes the user has, how many
+/// bundles there is room for, and the bundles held, from the front on.
 #[derive(Drop)]
 pub struct ListQueue {
     user: usize,
@@ -51,7 +51,7 @@ impl ListQueue {
         ListOutlet::new(self, lane)
     }
 
-    /// Appends a bundle, or gives it back where the queue is full.
+    /// Appends a bundle. Gives it back where the queue is full.
     pub(crate) fn put(&mut self, bundle: Bundle) -> Result<(), Bundle>
         ensures room { OnOk result (length self.old.held < self.old.capacity) }
         ensures held { OnOk result (self.new ≡ with_last self.old bundle) }

@@ -1,7 +1,7 @@
 use std::marker::Brand;
 
-/// The queues that the threads of one run share. No value of it is made: it is a type on which all types that mention
-/// these queues agree.
+/// The queues that the threads of one run share. No value of it is ever made: it is a type that all types that mention
+/// these queues agree on.
 pub trait Names {
     ghost use Rattle.std.specs.Prelude.{ℕ};
     ghost use Rattle.atomic_table.specs.Seated.{TableId};

@@ -8,8 +8,8 @@ use std::alloc::{AllocError, Global};
 use std::marker::Model;
 use std::sync::{Arc, Wait};
 
-/// The port of a queue that threads share: the end from which its user takes. Contracts see which queue it is,
-/// whose it is, and all that was taken.
+/// The port of a queue that threads share: the end from which its user takes. Contracts see the queue, the user, and
+/// all that was taken.
 #[derive(Drop)]
 pub struct UserPort {
     queue: Arc<SharedQueue, Global>,
@@ -108,7 +108,7 @@ impl UserPort {
         self.queue.capacity()
     }
 
-    /// Takes back the outlet of a lane; the lane can send nothing any more.
+    /// Takes back the outlet of a lane. The lane can't send anything afterwards.
     pub fn admit<R: Copy>(&mut self, outlet: LaneOutlet<R>)
         requires { outlet.queue ≡ self.old.queue }
         ensures same_queue { self.new.queue ≡ self.old.queue }

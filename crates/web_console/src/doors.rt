@@ -18,13 +18,14 @@ pub const VISITS: usize = 512;
 // How many visitors are let in before others have their turn.
 const ENTRIES: usize = 64;
 
-// For how many milliseconds one waits at most, before visits are looked for whose time is over.
+// The most milliseconds to wait before looking for visits whose time is over.
 const LOOK_MILLIS: i32 = 500;
 
-// For how many milliseconds one rests where the system can't wait, or lets nobody in.
+// How many milliseconds to rest where the system can't wait, or lets nobody in.
 const REST_MILLIS: u64 = 20;
 
-/// Lets visitors in, hands over those whose octets come, and closes the connections of those that take too long, for ever.
+/// Lets visitors in, hands over those whose octets come, and closes the connections of those that take too long. Never
+/// ends.
 pub(crate) fn keep_doors<R: Wait + Clock + Net<Listener = TcpListener, Stream = TcpStream>>(
     rt: &R,
     alloc: Global,
@@ -39,8 +40,8 @@ pub(crate) fn keep_doors<R: Wait + Clock + Net<Listener = TcpListener, Stream = 
     }
 }
 
-// Ends visits whose time is over, waits once, and does what is to be done then. They end first: octets that come are a reason to
-// go on only within the time.
+// Ends visits whose time is over, waits once, and handles what came. The visits end first, because octets that come are
+// a reason to go on only within the time.
 fn look_once<R: Wait + Clock + Net<Listener = TcpListener, Stream = TcpStream>>(
     rt: &R,
     alloc: Global,

@@ -18,7 +18,8 @@ struct Event {
 // The most octets of a run's start.
 const START_OCTETS: usize = 64;
 
-/// The last events of one run of a station, the oldest first. An event's ID is the run's start, a dash and the event's number.
+/// The last events of one run of a station, the oldest first. An event's ID is the run's start, a dash and the event's
+/// number.
 #[derive(Drop)]
 pub struct Events {
     start: Vec<u8>,
@@ -27,7 +28,7 @@ pub struct Events {
 }
 
 impl Events {
-    /// No event was seen.
+    /// No event was seen yet.
     pub fn new(alloc: Global) -> Events {
         Events {
             start: Vec::new(alloc),
@@ -36,8 +37,8 @@ impl Events {
         }
     }
 
-    /// The events that come next are of the run with this start, and those of another run are forgotten. A start that has no
-    /// place in an ID is no start, and of no start all events are forgotten.
+    /// Begins the run with this start, to which the next events belong, and forgets the events of another run. A start
+    /// that can't be in an ID counts as none. If there is none, all events are forgotten.
     pub fn begin(&mut self, start: &[u8]) -> Result<(), AllocError> {
         let start = if is_plain(start) {
             start
@@ -88,7 +89,7 @@ impl Events {
         Some(self.kept.back()?.number)
     }
 
-    // The number of the event with this ID; 0 where it is none of this run's, or newer than all that came.
+    // The number of the event with this ID; 0 where it isn't one of this run's, or is newer than all that came.
     fn number_of(&self, id: &[u8]) -> u64 {
         match number_in(id, self.start.as_slice()) {
             Some(number) if self.newest() >= Some(number) => number,
@@ -96,8 +97,8 @@ impl Events {
         }
     }
 
-    /// Adds the events after the one with this ID, as server-sent events; all of them if the ID isn't one of this run's. The
-    /// reader is asked to come again after a second.
+    /// Adds the events after the one with this ID, as server-sent events; all of them if the ID isn't one of this
+    /// run's, or is newer than all that came. Asks the reader to come again after a second.
     pub fn append_to(&self, last: &[u8], text: &mut Vec<u8>) -> Result<(), AllocError> {
         let after = self.number_of(last);
         text.extend_from_slice(b"retry: 1000\n\n".as_slice())?;
@@ -110,7 +111,7 @@ impl Events {
     }
 }
 
-// Whether a run's start can stand in an ID.
+// Whether a run's start can be in an ID.
 fn is_plain(start: &[u8]) -> bool {
     start.len() <= START_OCTETS && start.iter().all(|octet| octet.is_ascii_graphic())
 }

@@ -6,20 +6,20 @@ use std::time::Duration;
 /// For how many milliseconds a reply is used again.
 const FRESH_MILLIS: u64 = 500;
 
-/// The lines of a reply, or none if the station couldn't be asked.
+/// The lines of a reply; None if the station couldn't be asked.
 pub(crate) type Lines = Option<Arc<Vec<u8>, Global>>;
 
 /// The last reply to `status`, when it came, and whether somebody asks for the next one.
 #[derive(Drop)]
 pub(crate) struct Kept {
-    // on the system's own clock; none where nothing was asked yet
+    // on the system's monotonic clock; None where nothing was asked yet
     at: Option<Duration>,
     lines: Lines,
     is_asking: bool,
 }
 
 impl Kept {
-    /// Nothing was asked.
+    /// Nothing was asked yet.
     pub(crate) fn new() -> Kept {
         Kept {
             at: None,
@@ -49,7 +49,7 @@ impl Kept {
         }
     }
 
-    /// From now on somebody asks.
+    /// Notes that somebody asks.
     pub(crate) fn begin(&mut self) {
         self.is_asking = true;
     }

@@ -22,7 +22,7 @@ pub(crate) struct Lobby {
 }
 
 impl Lobby {
-    /// Without any visit.
+    /// A lobby without visits.
     pub(crate) fn new<R: Net>(rt: &R, alloc: Global) -> io::Result<Lobby> {
         let (bell, button) = UnixStream::pair(rt)?;
         bell.set_nonblocking(true)?;
@@ -67,7 +67,7 @@ impl Lobby {
         self.bell.as_raw_fd()
     }
 
-    /// The visits that were given back.
+    /// Takes the visits that were given back.
     pub(crate) fn take_back<R: Wait>(&self, rt: &R) -> Vec<Visit> {
         let mut octets = [0u8; 64];
         let mut bell = &self.bell;

@@ -23,14 +23,14 @@ const BODY_OCTETS: usize = 131_072;
 // How often octets are moved for one visit before others have their turn.
 const STEPS: usize = 64;
 
-/// A visitor's connection. Reading from it and writing to it wait for nothing.
+/// A visitor's connection. Reading from it and writing to it don't block.
 #[derive(Drop)]
 pub(crate) struct Visit {
     stream: TcpStream,
     connection: Connection,
-    /// When the console's patience ends, on the system's own clock.
+    /// When the console's patience ends, on the system's monotonic clock.
     until: Duration,
-    /// Whether a response is to be taken; else a request is to come.
+    /// Whether the visitor has to take a response; otherwise it has to send a request.
     is_writing: bool,
     /// Whether no octet has come yet.
     is_silent: bool,
@@ -64,7 +64,7 @@ impl Visit {
         self.stream.as_raw_fd()
     }
 
-    /// Whether a response is to be taken; else a request is to come.
+    /// Whether the visitor has to take a response; otherwise it has to send a request.
     pub(crate) fn is_writing(&self) -> bool {
         self.is_writing
     }
@@ -122,7 +122,7 @@ impl Visit {
     }
 }
 
-// The moment so many seconds from now.
+// The moment `secs` seconds from now.
 fn later<R: Clock>(rt: &R, secs: u64) -> io::Result<Duration> {
     Ok(rt.monotonic()?.saturating_add(Duration::from_secs(secs)))
 }

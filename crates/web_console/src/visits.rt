@@ -11,12 +11,12 @@ use std::thread::Threads;
 use std::time::Clock;
 use web_pages::Settings;
 
-/// How many visits are served at once. A visit is served while a request of it gets its response, and not while its octets are
-/// awaited.
+/// How many visits are served at once. A visit is served while one of its requests gets its response, but not while its
+/// octets are awaited.
 pub const VISITORS: usize = 32;
 
-/// Serves visits at the listener, and follows the station's events, for ever. It returns if the thread that follows can't
-/// be started, or the system has no pair of sockets.
+/// Serves visits at the listener, and follows the station's events. Returns only if the thread that follows can't be
+/// started, or the system has no pair of sockets.
 pub fn run_console<
     'x,
     R: Threads + Wait + Clock + Net<Listener = TcpListener, Stream = TcpStream> + Sync,

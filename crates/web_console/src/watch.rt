@@ -15,20 +15,20 @@ use std::time::{Clock, Duration};
 use web_lines::{event_number, no_metrics, start_moment, to_document, to_metrics};
 use web_pages::{Found, Permit, Route, Source};
 
-// For how many milliseconds it rests before the station is asked for events again.
+// How many milliseconds to rest before asking the station for events again.
 const REST_MILLIS: u64 = 500;
 
-// For how many milliseconds one waits for the answer that another one asks for.
+// How many milliseconds to wait for the answer that another thread asks for.
 const OTHERS_MILLIS: u64 = 1500;
 
 // How many milliseconds the station may take to let in whoever follows its events, and to answer.
 const FOLLOW_MILLIS: u64 = 5000;
 
-// For how many milliseconds one waits for an event at once.
+// How many milliseconds one wait for an event lasts.
 const EVENT_MILLIS: u64 = 60_000;
 
-/// What the console knows of its station: it is asked one `status` at a time, and a reply is used again for half a second.
-/// No lock is held while the station is asked, and it is asked nothing but what `Asked` has.
+/// What the console knows of its station. The station is asked one `status` at a time, and a reply is used again for
+/// half a second. No lock is held while the station is asked, and it is asked nothing but what `Asked` has.
 #[derive(Drop)]
 pub struct Watch<'a, R> {
     rt: &'a R,
@@ -52,7 +52,7 @@ impl<'a, R: Wait + Net + Clock> Watch<'a, R> {
         }
     }
 
-    /// Keeps the last events of the station, for ever.
+    /// Keeps the last events of the station. Never ends.
     pub fn follow_events(&self) {
         for _ in self.rt.forever() {
             let _ended = self.follow_once();
@@ -76,7 +76,7 @@ impl<'a, R: Wait + Net + Clock> Watch<'a, R> {
         Ok(())
     }
 
-    // The events that come next are of the run that the status speaks of.
+    // Begins the run that the status reports, to which the next events belong.
     fn begin_run(&self, status: &[u8]) -> Result<(), AllocError> {
         let moment = match str::from_utf8(status) {
             Ok(lines) => start_moment(self.alloc, lines)?,
@@ -107,7 +107,7 @@ impl<'a, R: Wait + Net + Clock> Watch<'a, R> {
         Station::ask_once(self.rt, self.alloc, self.path, asked.line(), limit)
     }
 
-    // The lines of a status that is fresh enough. Who finds another one asking waits for what that one hears.
+    // The lines of a status that is fresh enough. A caller that finds another one asking waits for what that one hears.
     fn status(&self) -> Lines {
         if let Some(lines) = self.kept_status() {
             return lines;
@@ -119,7 +119,7 @@ impl<'a, R: Wait + Net + Clock> Watch<'a, R> {
         self.keep_status(lines)
     }
 
-    // The answer that is kept; none where the caller has to ask, and to keep what it hears.
+    // The answer that is kept; None where the caller has to ask, and to keep what it hears.
     fn kept_status(&self) -> Option<Lines> {
         let limit = Duration::from_millis(OTHERS_MILLIS);
         let (mut kept, _late) = self.answered.wait_timeout_while(
@@ -139,7 +139,7 @@ impl<'a, R: Wait + Net + Clock> Watch<'a, R> {
         None
     }
 
-    // Keeps an answer, and gives it.
+    // Keeps an answer, and returns it.
     fn keep_status(&self, lines: Lines) -> Lines {
         let now = self.rt.monotonic().ok();
         let mut kept = self.kept.lock(self.rt);
@@ -159,7 +159,7 @@ fn text_of(lines: &Lines) -> Option<&str> {
     }
 }
 
-// Writes what a route makes of the lines of a status, if there are some, into an empty text.
+// Writes what a route makes of the lines of a status, if there are any, into an empty text.
 fn push_status(
     alloc: Global,
     route: Route,

@@ -30,7 +30,7 @@ head_of (Gauge name help) = gauge name.now help.now
 abbrev pub up_head : Head
 up_head = gauge (codes "cfdp_up") (codes "Whether the station answers.")
 
--- a family, the kind of the lines that have its numbers, and where they stand there
+-- a family, the kind of the lines that have its numbers, and where they are there
 pub record Row : Type 0 where
   pub head : Head
   pub kind : Kind
@@ -44,7 +44,7 @@ told_row head kind spot = record { head = head; kind = kind; spot = spot }
 abbrev pub row_of : Told → Row
 row_of told = told_row (head_of told.0) told.1 (spot_of told.2)
 
--- the families whose numbers stand in lines
+-- the families whose numbers are in lines
 unfoldable pub told_rows : List Row
 told_rows =
     told_row (gauge (codes "cfdp_entity_info") (codes "The entity by its number and version; always 1."))

@@ -55,9 +55,9 @@ abbrev pub entity_labels : Spot → Json → Option (List SaidLabel)
 entity_labels (at_known name) value = both_labels (label_at (codes "id") (codes "id") value) (label_at (codes "version") (codes "version") value)
 entity_labels spot value = Some []
 
--- the labels of the number at a place of a line: a user's name, a remote entity's number, a refusal's reason with its fault of
--- decoding if it has one, a lane with its user, also that of a transaction, the role, class and condition of transactions that
--- ended, the role of files that came whole; a line that lacks what they say has no number
+-- the labels of the number at a place of a line: a user's name, a remote entity's number, a refusal's reason with its
+-- fault of decoding if it has one, a lane with its user, also that of a transaction, the role, class and condition of
+-- transactions that ended, the role of files that came whole; a line that lacks what they say has no number
 abbrev pub labels_at : Kind → Spot → Json → Option (List SaidLabel)
 labels_at User spot value = one_label (label_at (codes "user") (codes "name") value)
 labels_at Remote spot value = one_label (label_at (codes "remote") (codes "id") value)

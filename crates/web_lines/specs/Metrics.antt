@@ -12,7 +12,8 @@ use Rattle.web_lines.specs.Labels.{SaidLabel, labels_at}
 use Rattle.web_lines.specs.Numbers.{IsNumberAt}
 use Rattle.web_lines.specs.States.{count_in_state, name_of_state, states_of}
 
--- an octet of a label's value: a backslash and a quote have a backslash in front, and a line feed is written as a backslash and an n
+-- an octet of a label's value: a backslash and a quote have a backslash in front, and a line feed is written as a
+-- backslash and an n
 abbrev pub escaped_octet : ℕ → List ℕ
 escaped_octet octet =
     if octet == 92 then 92 ∷ 92 ∷ [] else (if octet == 34 then 92 ∷ 34 ∷ [] else (if octet == 10 then 92 ∷ 110 ∷ [] else octet ∷ []))
@@ -89,23 +90,23 @@ told_text head labels number = []
 abbrev pub is_of_row : Row → Line → Bool
 is_of_row row line = place_of line.kind == place_of row.kind
 
--- what a line says by a row, with its labels, comes behind a text
+-- what a line says by a row, with its labels, follows a text
 abbrev pub AddsTold : Row → Line → List ℕ → List ℕ → Type 0
 AddsTold row line old new =
     (value : Json) × (document line.text.now ≡ Some value)
     × ((number : Option ℕ) × IsNumberAt row.spot value number × (new ≡ old ++ told_text row.head (labels_at row.kind row.spot value) number))
 
--- it comes where the line is of the row's kind; else nothing does
+-- it follows where the line is of the row's kind; else nothing does
 abbrev pub AddsLine : Row → Line → List ℕ → List ℕ → Type 0
 AddsLine row line old new =
     ((is_of_row row line ≡ false) × (new ≡ old)) ⊎ ((is_of_row row line ≡ true) × AddsTold row line old new)
 
--- the numbers of lines come behind a text, in order
+-- the numbers of lines follow a text, in order
 abbrev pub AddsLines : Row → List Line → List ℕ → List ℕ → Type 0
 AddsLines row [] old new = new ≡ old
 AddsLines row (line ∷ lines) old new = (middle : List ℕ) × AddsLine row line old middle × AddsLines row lines middle new
 
--- families with the numbers of lines come behind a text, in order
+-- families with the numbers of lines follow a text, in order
 abbrev pub AddsRows : List Row → List Line → List ℕ → List ℕ → Type 0
 AddsRows [] lines old new = new ≡ old
 AddsRows (row ∷ rows) lines old new =
@@ -115,13 +116,13 @@ AddsRows (row ∷ rows) lines old new =
 abbrev pub has_counts : List Line → Bool
 has_counts lines = not (count_of_kind kinds.Delivered lines == 0)
 
--- the numbers of what such a station counts come behind a text; of others nothing does
+-- the numbers of what such a station counts follow a text; of others nothing does
 abbrev pub AddsCounts : List Line → List ℕ → List ℕ → Type 0
 AddsCounts lines old new =
     ((has_counts lines ≡ false) × (new ≡ old)) ⊎ ((has_counts lines ≡ true) × AddsRows count_rows lines old new)
 
--- the numbers of a station that answers: that it does, the numbers in the lines of its status, those that count lines, and those
--- of what it counts
+-- the numbers of a station that answers: that it does, the numbers in the lines of its status, those that count lines,
+-- and those of what it counts
 abbrev pub IsMetrics : List ℕ → List ℕ → Type 0
 IsMetrics status text =
     (lines : List Line) × AreLinesOf status lines

@@ -7,7 +7,7 @@ use Rattle.json.specs.Find.{get, as_bool, as_number}
 use Rattle.web_lines.specs.declared.place.Place.{Place}
 use Rattle.web_lines.specs.declared.place.Place.TheVariants.{Member, Counted, Truth, Known}
 
--- where a number stands: a member, a member of `counters`, one that is true or false, or one that is there
+-- where a number is: a member, a member of `counters`, one that is true or false, or one that is there
 pub data Spot : Type 0 where
   at_member : List ℕ → Spot
   at_counter : List ℕ → Spot

@@ -12,8 +12,8 @@ use crate::lines::Line;
 use crate::state::{STATES, State, count_of, states_of};
 use std::alloc::{AllocError, Global};
 
-/// Adds how many transactions are in each state, and how many files wait, are being read, are being stored, or couldn't be
-/// stored so far.
+/// Adds how many transactions are in each state, and how many files wait, are being read, are being stored, or couldn't
+/// be stored so far.
 pub(crate) fn push_counted(
     alloc: Global,
     text: &mut Vec<u8>,

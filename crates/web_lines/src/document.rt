@@ -8,9 +8,10 @@ use crate::lines::{Line, read_lines};
 use crate::text::push_text;
 use std::alloc::{AllocError, Global};
 
-/// One document of the lines: an object with the members `entities`, `logs`, `users`, `transactions`, `remotes`, `refusals`,
-/// `outbox`, `reading`, `parked`, `storing` and `recorders`, each the list of the lines of its kind, in order and as they came; and
-/// `ended`, `delivered` and `stores`, if there are such lines. A line that isn't a JSON object of one of these kinds is left out.
+/// One document of the lines: an object with the members `entities`, `logs`, `users`, `transactions`, `remotes`,
+/// `refusals`, `outbox`, `reading`, `parked`, `storing` and `recorders`, and, if there are such lines, `ended`,
+/// `delivered` and `stores`. Each is the list of the lines of its kind, in order and as they came. A line that isn't a
+/// JSON object of one of these kinds is left out.
 pub fn to_document(alloc: Global, text: &str) -> Result<Vec<u8>, AllocError>
     ensures { IfOk result (λ document. IsDocument text.now document.items) }
 {
@@ -43,7 +44,7 @@ fn push_lists(document: &mut Vec<u8>, lines: &[Line<'_>]) -> Result<(), AllocErr
     push_text(document, "]}\n")
 }
 
-// The same as below, but nothing where there is no line of the kind.
+// As `push_list`, but adds nothing where there is no line of the kind.
 fn push_some_list(
     document: &mut Vec<u8>,
     opening: &str,
@@ -58,7 +59,7 @@ fn push_some_list(
     push_list(document, opening, lines, kind)
 }
 
-// Adds an opening, and behind it the lines of a kind with commas between them.
+// Adds an opening, and after it the lines of a kind with commas between them.
 fn push_list(
     document: &mut Vec<u8>,
     opening: &str,

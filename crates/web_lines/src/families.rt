@@ -25,7 +25,7 @@ impl Family {
         }
     }
 
-    // What it is about.
+    // Its help text.
     fn help(self) -> &'static str
         ensures { result.now ≡ (head_of self).help }
     {
@@ -34,7 +34,7 @@ impl Family {
         }
     }
 
-    // How its type is called.
+    // The name of its type.
     fn form(self) -> &'static str
         ensures { result.now ≡ (head_of self).form }
     {

@@ -79,7 +79,7 @@ impl Kind {
         }
     }
 
-    /// The kind of a line that was read; none if it isn't an object of a kind known here.
+    /// The kind of a line that was read; None if it isn't an object of a kind known here.
     pub(crate) fn of(value: &Value<'_>) -> Option<Kind>
         ensures { result ≡ kind_of_value (value_view value.now) }
     {

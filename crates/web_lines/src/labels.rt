@@ -1,4 +1,4 @@
-//! Numbers as Prometheus has them.
+//! Numbers in Prometheus' text format.
 ghost use Rattle.std.specs.Prelude.{◌≡◌, ◌++◌, OnOk};
 ghost use Rattle.web_lines.specs.Labels.{said_label, said_labels};
 ghost use Rattle.web_lines.specs.Metrics.{escaped, escaped_octet, label_text, labels_text, sample_text};
@@ -58,7 +58,7 @@ fn push_label(text: &mut Vec<u8>, label: Label<'_>) -> Result<(), AllocError>
     push_text(text, "\"")
 }
 
-// Adds labels in their braces, if there are some.
+// Adds labels in their braces, if there are any.
 #[tactic(auto, unfolding(crate::specs::Metrics::labels_text))]
 fn push_labels(text: &mut Vec<u8>, labels: Labels<'_>) -> Result<(), AllocError>
     ensures { OnOk result (text.new.items ≡ text.old.items ++ labels_text (said_labels labels.entry)) }

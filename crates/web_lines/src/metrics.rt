@@ -9,8 +9,8 @@ use crate::lines::read_lines;
 use crate::series::{push_told, push_told_counts};
 use std::alloc::{AllocError, Global};
 
-/// The numbers of a station's status, in Prometheus' text format. A line that isn't a JSON object of a known kind counts for
-/// nothing.
+/// The numbers of a station's status, in Prometheus' text format. A line that isn't a JSON object of a known kind
+/// counts for nothing.
 pub fn to_metrics(alloc: Global, status: &str) -> Result<Vec<u8>, AllocError>
     ensures { IfOk result (λ text. IsMetrics status.now text.items) }
 {

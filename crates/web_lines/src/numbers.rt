@@ -14,7 +14,7 @@ use json::{Error, Scratch, Value};
 use station_names::member;
 use std::alloc::{AllocError, Global};
 
-/// The number of an event; none if the line isn't a JSON object with a number.
+/// The number of an event; None if the line isn't a JSON object with a number.
 pub fn event_number(alloc: Global, line: &str) -> Result<Option<u64>, AllocError>
     ensures { IfOk result (IsNumberIn (codes "number") line.now) }
 {
@@ -27,7 +27,7 @@ pub fn event_number(alloc: Global, line: &str) -> Result<Option<u64>, AllocError
     }
 }
 
-/// The moment at which a station started, as the entity's line of a status says it; none if no line does.
+/// The moment at which a station started, as the entity's line of a status gives it; None if no line does.
 pub fn start_moment(alloc: Global, status: &str) -> Result<Option<String>, AllocError>
     ensures { IfOk result (λ moment. IsStartOf status.now (option_map string_bytes moment)) }
 {
@@ -48,7 +48,7 @@ fn entity_line<'a>(lines: &[Line<'a>]) -> Option<Line<'a>>
         .find(|line| line.kind.place() == Kind::Entity.place())
 }
 
-// The moment that a line says.
+// The moment that a line gives.
 fn started_at(alloc: Global, line: &str) -> Result<Option<String>, AllocError>
     ensures { IfOk result (λ moment. option_map string_bytes moment ≡ start_of_line line.now) }
 {

@@ -19,7 +19,7 @@ pub(crate) enum Place {
     Counted(&'static str),
     /// A member that is true or false: 1 if it is true.
     Truth(&'static str),
-    /// A member that is there: 1.
+    /// A member that is present: 1.
     Known(&'static str),
 }
 
@@ -87,7 +87,7 @@ fn known_in(value: &Value<'_>, name: &str) -> Option<u64>
     }
 }
 
-/// The labels of the number at a place of a line. If the line lacks what they say, it has no number.
+/// The labels of the number at a place of a line; None if the line lacks what they say. It then has no number.
 pub(crate) fn labels_in<'a>(value: &Value<'a>, kind: Kind, place: Place) -> Option<Labels<'a>>
     ensures { option_map said_labels result ≡ labels_at kind (spot_of place) (value_view value.now) }
 {
@@ -103,7 +103,7 @@ pub(crate) fn labels_in<'a>(value: &Value<'a>, kind: Kind, place: Place) -> Opti
     }
 }
 
-// One label, if it is there.
+// One label, if it is present.
 fn one_label(label: Option<Label<'_>>) -> Option<Labels<'_>>
     ensures { option_map said_labels result ≡ one_label (option_map said_label label.entry) }
 {

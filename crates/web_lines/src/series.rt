@@ -1,4 +1,4 @@
-//! Families with the numbers that stand in lines.
+//! Families with the numbers that are in lines.
 ghost use Rattle.std.specs.Prelude.{OnOk, ◌++◌, map};
 ghost use Rattle.web_lines.specs.Families.{count_rows, row_of, told_rows};
 ghost use Rattle.web_lines.specs.Metrics.{AddsCounts, AddsLine, AddsLines, AddsRows, head_text};
@@ -14,7 +14,7 @@ use crate::told_counts::TOLD_COUNTS;
 use json::{Scratch, Value};
 use std::alloc::{AllocError, Global};
 
-/// Adds all families whose numbers stand in lines.
+/// Adds all families whose numbers are in lines.
 pub(crate) fn push_told(
     alloc: Global,
     text: &mut Vec<u8>,

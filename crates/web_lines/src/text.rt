@@ -1,4 +1,4 @@
-//! Text in the making.
+//! Adding to a text.
 ghost use Rattle.std.specs.Prelude.{◌≡◌, ◌++◌, OnOk, decimal};
 
 use std::alloc::AllocError;

@@ -1,4 +1,4 @@
-//! Families whose numbers stand in lines.
+//! Families whose numbers are in lines.
 use crate::families::Family;
 use crate::families::Family::{Counter, Gauge};
 use crate::kind::Kind;
@@ -11,7 +11,7 @@ use station_names::member;
 #[derive(Clone, Copy, Debug)]
 pub(crate) struct Told(pub(crate) Family, pub(crate) Kind, pub(crate) Place);
 
-/// The families whose numbers stand in lines.
+/// The families whose numbers are in lines.
 pub(crate) const TOLD: [Told; 36] = [
     Told(
         Gauge(

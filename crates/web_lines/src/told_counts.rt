@@ -1,4 +1,4 @@
-//! Families whose numbers stand in the lines of a station that counts.
+//! Families whose numbers are in the lines of a station that counts.
 use crate::families::Family::{Counter, Gauge};
 use crate::kind::Kind::{Delivered, Ended, Remote, Store, Transaction};
 use crate::place::Place::Member;

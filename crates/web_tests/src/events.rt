@@ -6,7 +6,7 @@ fn push(alloc: Global, events: &mut Events, number: u64, json: &[u8]) -> Result<
     events.push(number, Vec::from_slice(alloc, json)?)
 }
 
-// Events of a run, numbered from one on; the last one comes again with other octets.
+// Events of a run, numbered from one on; the last one is pushed again with other octets.
 fn fill(alloc: Global, events: &mut Events, count: u64) -> Result<(), AllocError> {
     events.begin(b"a".as_slice())?;
     for number in 1..=count {
@@ -22,7 +22,8 @@ fn tell(events: &Events, last: &[u8], text: &mut Vec<u8>) -> Result<(), AllocErr
     events.append_to(last, text)
 }
 
-// The oldest events go; of those that stay all are told without an ID, and the last one after that of the one before.
+// The oldest events are dropped. Without an ID all that remain are sent; after the ID of the last but one, only the
+// last.
 fn are_last(events: &Events, text: &mut Vec<u8>) -> Result<bool, AllocError> {
     tell(events, b"", text)?;
     let are_all = text
@@ -32,7 +33,7 @@ fn are_last(events: &Events, text: &mut Vec<u8>) -> Result<bool, AllocError> {
     Ok(are_all && text.as_slice() == b"retry: 1000\n\nid: a-1029\ndata: {}\n\n".as_slice())
 }
 
-// Of another run only its own events are told.
+// Of another run only its own events are sent.
 fn begins_anew(alloc: Global, events: &mut Events, text: &mut Vec<u8>) -> Result<bool, AllocError> {
     events.begin(b"b".as_slice())?;
     push(alloc, events, 2, b"[]")?;

@@ -24,19 +24,19 @@ pub record LinkedNone (part path : List ℕ) (before now : List Step) : Type 0 w
   pub copy : ℕ
   pub steps : (now ≡ refusals part path copy before) ⊎ (now ≡ tried (link part (numbered path copy)) ∷ refusals part path copy before)
 
--- no copy was linked, and then the part was taken away, or tried to be
+-- no copy was linked, and then the part was removed, or the removal failed
 pub record NotLinked (part path : List ℕ) (filled now : List Step) : Type 0 where
   pub linked : List Step
   pub none : LinkedNone part path filled linked
   pub removal : Asks (remove part) linked now
 
--- a copy was linked, and then the part was taken away, or tried to be
+-- a copy was linked, and then the part was removed, or the removal failed
 pub record Linked (part path place : List ℕ) (filled now : List Step) : Type 0 where
   pub linked : List Step
   pub first : LinkedFirst part path place filled linked
   pub removal : Asks (remove part) linked now
 
--- the folder of a path was flushed, or tried to be, and then the path was taken away, or tried to be
+-- the folder of a path was flushed, or that failed, and then the path was removed, or that failed
 pub record TakenBack (place : List ℕ) (before now : List Step) : Type 0 where
   pub flushed : List Step
   pub flush : Asks (flush_folder (folder_of place)) before flushed
@@ -48,7 +48,7 @@ pub record KeptAt (part path place : List ℕ) (filled now : List Step) : Type 0
   pub linked : Linked part path place filled gone
   pub steps : now ≡ did (flush_folder (folder_of place)) ∷ gone
 
--- a copy was linked, and taken back
+-- a copy was linked, and removed again
 pub record NotSettled (part path : List ℕ) (filled now : List Step) : Type 0 where
   pub place : List ℕ
   pub gone : List Step

@@ -46,7 +46,7 @@ pub record Asks (call : Call) (before now : List Step) : Type 0 where
   pub answered : IsAnswered call step
   pub steps : now ≡ step ∷ before
 
--- the last step takes a path away, or tried to
+-- the last step removes a path, or tried to
 pub record TakesAway (path : List ℕ) (now : List Step) : Type 0 where
   pub earlier : List Step
   pub removal : Asks (remove path) earlier now
@@ -61,7 +61,7 @@ pub record Named (part path : List ℕ) (now : List Step) : Type 0 where
 abbrev pub NoneLeft : List ℕ → List ℕ → List Step → Type 0
 NoneLeft part path now = Named part path now ⊎ TakesAway part now
 
--- a part was made, and nothing else changed; the last step takes it away, or tried to
+-- a part was made, and nothing else changed; the last step removes it, or tried to
 pub record GivenUp (path : List ℕ) (before now : List Step) : Type 0 where
   pub part : List ℕ
   pub began : Began path part NothingNew before now

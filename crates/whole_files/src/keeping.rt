@@ -1,4 +1,4 @@
-//! A file is kept beside those that are there, under the first of its names that is free.
+//! A file is kept beside existing ones, under the first of its names that is free.
 ghost use Rattle.std.specs.Prelude.{◌≡◌, ◌∷◌, None, Some, IfOk, OnErr, OnOk, string_bytes};
 ghost use Rattle.disk.specs.Crash.Content.{flushed};
 ghost use Rattle.disk.specs.Promise.{Changes, HoldsAfterCut, Is, IsReached, NoPath, WholeOrGone};
@@ -17,8 +17,9 @@ use std::alloc::Global;
 // How many paths are tried: the file's own, and those with a number up to 9,999 appended.
 const COPIES: u64 = 10_000;
 
-/// Keeps octets over a new part, under a path or, where there is a file, under the first numbered copy of it that is
-/// free, and returns where. Parts are numbered from `next` on, and `next` is the number behind the last that was tried.
+/// Keeps octets under a path or, where there is a file already, under its first free numbered copy, and returns the
+/// path that it used. The octets are written to a new part first. Parts are numbered from `next` on; afterwards `next`
+/// is the number after the last one tried.
 pub fn keep_file<D: Disk>(
     disk: &mut D,
     alloc: Global,
@@ -36,7 +37,7 @@ pub fn keep_file<D: Disk>(
     link_part(disk, alloc, part.as_str(), path, octets)
 }
 
-// Gives a part that has these octets, flushed, a free name, removes the part, and flushes the folder.
+// Gives a free name to a part that has these octets, flushed. Then removes the part's own name, and flushes the folder.
 fn link_part<D: Disk>(
     disk: &mut D,
     alloc: Global,
@@ -87,7 +88,7 @@ fn link_first<D: Disk>(
     Err(Fault::Exists)
 }
 
-// Flushes the folder of a copy. Where that fails, the copy is taken back.
+// Flushes the folder of a copy. If that fails, the copy is removed again.
 fn settle<D: Disk>(disk: &mut D, place: &str, _path: &str, _octets: &[u8]) -> Result<(), Fault>
     requires copy { IsCopyOf _path.now place.now }
     requires reached { IsReached (D.done disk.old) place.now }

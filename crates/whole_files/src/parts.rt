@@ -14,8 +14,8 @@ use std::alloc::{AllocError, Global};
 const PART_NAMES: u64 = 1_000_000;
 
 /// Creates a part beside a path, under the first of its names that is free, and returns its path. Names are numbered
-/// from `next` on, and `next` is the number behind the last that was tried. Where a million of them are taken, a later
-/// call goes on from there.
+/// from `next` on; afterwards `next` is the number after the last one tried. If a million of them are taken, the call
+/// fails, and a later call goes on from there.
 pub fn new_part<D: Disk>(
     disk: &mut D,
     alloc: Global,

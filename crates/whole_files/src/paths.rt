@@ -6,7 +6,8 @@ ghost use Rattle.whole_files.specs.Wholes.{folder_at, numbered};
 
 use std::alloc::{AllocError, Global};
 
-/// The part of a path before its last slash: the folder that it is in, and the empty path for the disk's own.
+/// Returns the part of a path before its last slash: the folder that the path is in, or the empty path for the disk's
+/// own folder.
 pub fn folder_of(path: &str) -> &str
     ensures { result.now ≡ folder_of path.now }
 {
@@ -27,7 +28,7 @@ pub fn folder_at(path: &str, end: usize) -> Option<&str>
     }
 }
 
-// Whether there is an octet at this place, and it is a slash.
+// Whether the octet at this place is a slash; false where there is no octet.
 fn is_slash_at(octets: &[u8], at: usize) -> bool
     ensures slash { result ≡ is_slash (slice_index octets.now at) }
     ensures inside { result ≡ true → at < length octets.now }

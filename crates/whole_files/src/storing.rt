@@ -1,4 +1,4 @@
-//! A file is stored over a part: it is found as a whole, or what was there before.
+//! A file is stored by way of a part, so that either the whole file is found or what was there before.
 ghost use Rattle.std.specs.Prelude.{◌≡◌, ◌≢◌, [], OnOk};
 ghost use Rattle.disk.specs.Crash.Content.{written, flushed};
 ghost use Rattle.disk.specs.Promise.{Changes, HoldsAfterCut, Is, IsReached, NothingNew, Whole};
@@ -10,8 +10,8 @@ use crate::paths::folder_of;
 use disk::{Disk, Fault};
 use std::alloc::Global;
 
-/// Stores octets under a path, over a new part beside it, in place of the file there. Parts are numbered from `next`
-/// on, and `next` is the number behind the last that was tried.
+/// Stores octets under a path, by way of a new part beside it, and replaces the file there, if any. Parts are numbered
+/// from `next` on; afterwards `next` is the number after the last one tried.
 pub fn replace_file<D: Disk>(
     disk: &mut D,
     alloc: Global,
@@ -27,8 +27,8 @@ pub fn replace_file<D: Disk>(
     put_part(disk, part.as_str(), path, octets)
 }
 
-/// Stores octets under a path, over the part that is named, in place of the file there. A part that an earlier try left
-/// is removed first. The file is the open one from then on.
+/// Stores octets under a path, by way of the named part, and replaces the file there, if any. A part that an earlier
+/// try left is removed first. From then on the stored file is the disk's open file.
 pub fn replace_beside<D: Disk>(
     disk: &mut D,
     part: &str,
@@ -46,7 +46,7 @@ pub fn replace_beside<D: Disk>(
     put_part(disk, part, path, octets)
 }
 
-// Creates a part, in place of one that was left.
+// Creates a part, and replaces one that an earlier try left.
 fn renew<D: Disk>(disk: &mut D, part: &str) -> Result<(), Fault>
     ensures changes { Changes (Is part.now) NothingNew (D.done disk.old) (D.done disk.new) }
     ensures ok { OnOk result (IsOpen part.now (written []) (D.done disk.new)) }
@@ -61,8 +61,8 @@ fn renew<D: Disk>(disk: &mut D, part: &str) -> Result<(), Fault>
     }
 }
 
-/// Gives a part that has these octets, flushed, a path, in place of the file there, and flushes its folder. Where the
-/// part gets no name, it is removed.
+/// Renames a part, which has these octets flushed, to a path, replacing the file there, if any. Then flushes the path's
+/// folder. If the rename fails, the part is removed.
 pub fn put_part<D: Disk>(disk: &mut D, part: &str, path: &str, _octets: &[u8]) -> Result<(), Fault>
     requires apart { path.now ≢ part.now }
     requires reached { IsReached (D.done disk.old) path.now }

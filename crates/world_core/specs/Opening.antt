@@ -12,7 +12,7 @@ layout_of config =
 
 -- ---- lists that are made one by one
 
--- there are so many items, and each is right for its place
+-- there are this many items, and each is right for its place
 pub record AreMade {A : Type 0} (IsAt : ℕ → A → Type 0) (made : List A) (count : ℕ) : Type 0 where
   pub counted : length made ≡ count
   pub each : (place : ℕ) (item : A) → slice_get made place ≡ Some item → IsAt place item

@@ -1,4 +1,4 @@
-//! A protocol entity in one thread: the lanes of its users, and its answers to events.
+//! A protocol entity in one thread: the lanes of its users, and how it handles events.
 #![tactic(auto)]
 
 mod opening;

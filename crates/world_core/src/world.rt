@@ -12,9 +12,9 @@ use std::marker::Model;
 use txn_events::{Event, What};
 use world_users::Users;
 
-/// A protocol entity in one thread. It handles events and returns what is to be done; its users take their
-/// indications. Contracts see its configuration and its users; they speak of every history, newest first, after which
-/// the entity may stand.
+/// A protocol entity in one thread. It handles events and returns what is to be done; its users take their indications.
+/// Contracts see its configuration and its users. They are stated for every history, newest first, that can have led to
+/// the entity's present state.
 #[derive(Drop)]
 pub struct World {
     alloc: Global,
@@ -135,7 +135,7 @@ impl World {
         }
     }
 
-    // The answer to an event, with the contract stated by the users alone.
+    // Handles an event as `step` does; the contract is stated over the users alone.
     fn answer(&mut self, event: &WorldEvent) -> Result<Done, EntityRefusal>
         requires { MayCome self.old.config event.now }
         ensures answered { (history : List Happening) → StandsAfter self.old history

@@ -15,7 +15,7 @@ use txn_events::Event;
 use txn_lane::{Done, Glance, Lane, Refused};
 use user_queues::{LaneOutlet, ListQueue, UserPort, UserQueue, open};
 
-// Whether a lane gives the file that came.
+// Whether a lane gives the received file.
 fn gives_file(lane: &Lane) -> bool {
     match &lane.image(RECEIVED, 2) {
         Err(_) => false,

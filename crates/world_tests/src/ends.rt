@@ -13,7 +13,7 @@ pub(crate) trait End {
     /// What holds between two steps.
     ghost stands: { Self → Type 0 };
 
-    /// Takes an event, and adds the answer to a text.
+    /// Handles an event, and adds the answer to a text.
     fn tell(&mut self, alloc: Global, text: &mut String, event: &Event) -> Result<(), AllocError>
         requires keyed { IsKeyed event.now }
         requires stood { stands self.old }
@@ -24,7 +24,7 @@ pub(crate) trait End {
         requires { stands self.old }
         ensures { stands self.new };
 
-    /// Whether it shows the file that came and waits for the file store.
+    /// Whether it shows the received file that waits for the file store.
     fn shows_file(&self) -> bool;
 }
 

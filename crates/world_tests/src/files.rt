@@ -47,7 +47,7 @@ pub(crate) fn is_file(image: &Image, number: u64) -> bool {
         && is_content(image.octets.as_slice(), number)
 }
 
-// The Put of the file with this number: every second one asks for closure.
+// The Put of the file with this number: every second one requests closure.
 fn request_of(alloc: Global, class: Class, number: u64) -> Option<PutRequest> {
     let (from, to) = names_of(number);
     let file = content_of(alloc, number).ok()?;

@@ -53,7 +53,7 @@ const RECEPTION: Rows = &[
     ),
 ];
 
-// A PDU that meets a queue with room for one bundle is taken once there is room.
+// A PDU that meets a full queue, which has room for one bundle, is accepted once there is room.
 const FULL: Rows = &[
     (
         Step::Pdu("24000a0001050207000000000001610162"),

@@ -1,7 +1,7 @@
-//! Worked transactions that no script can show, step by step: with the code of either end, with lanes over both kinds of
-//! queue, and with one-thread entities of two sources, or two that receive each other's PDUs, also in a long run in which
-//! PDUs are lost, repeated and reordered pseudo-randomly. And scripts whose readers and writers fail, and when their
-//! answers are written.
+//! Worked transactions that no script can show, step by step: with the code of either end; with lanes over both kinds
+//! of queue; and with one-thread entities, one with two sources, and two that receive each other's PDUs. In a long run
+//! of two entities, PDUs are lost, repeated and reordered pseudo-randomly. And scripts whose readers and writers fail,
+//! and when their answers are written.
 #![tactic(auto)]
 
 #[cfg(test)]

@@ -160,7 +160,7 @@ impl Notes {
         Ok(())
     }
 
-    /// Notes what an end answers, echoes included; the transaction of an event that was taken.
+    /// Notes an end's answer, echoes included. Returns the transaction of an event that was accepted.
     pub(crate) fn note(
         &mut self,
         end: End,
@@ -196,7 +196,7 @@ impl Notes {
         }
     }
 
-    // Notes that a file is indicated as complete, for which it has to be stored.
+    // Notes that a file is indicated as complete, which requires that it was stored.
     fn hear_complete(&mut self, end: End, key: TxnKey) {
         match end {
             End::Putting => count(&mut self.seen.told_sender),
@@ -208,7 +208,7 @@ impl Notes {
         }
     }
 
-    // Marks the file at a place as told at an end.
+    // Marks the file at a place as indicated at an end.
     fn mark(&mut self, end: End, place: usize) {
         let Some(posted) = self.posted.get_mut(place) else {
             return;

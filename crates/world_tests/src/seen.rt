@@ -13,7 +13,7 @@ pub(crate) struct Seen {
     pub(crate) rejected: u64,
     /// Complete deliveries that were indicated to the sending users.
     pub(crate) told_sender: u64,
-    /// Those in class 1, if closure was asked for.
+    /// Those in class 1, where closure was requested.
     pub(crate) told_closed: u64,
     /// Complete deliveries that were indicated to the receiving users.
     pub(crate) told_receiver: u64,

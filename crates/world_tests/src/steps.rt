@@ -30,22 +30,22 @@ pub(crate) const SENT: TxnKey = TxnKey {
 pub(crate) enum Step {
     /// The file is put, in class 2.
     Put,
-    /// A PDU comes, in hex.
+    /// A PDU is received, in hex.
     Pdu(&'static str),
     Pump,
     Timer(TimerKind, u32),
     Stored(u32, bool),
     /// The user takes a bundle.
     Take,
-    /// It is looked at whether the file waits for the file store.
+    /// The test looks whether the file waits for the file store.
     Look,
 }
 
 /// Steps, each with its answer.
 pub(crate) type Rows = &'static [(Step, &'static str)];
 
-/// Entity 2, with IDs and sequence numbers of one octet, segments of 256 octets and all limits 2; each fault cancels. Each
-/// timer has a different interval, so that the rows show which one is armed.
+/// Entity 2, with IDs and sequence numbers of one octet, segments of 256 octets and all limits 2; each fault cancels.
+/// Each timer has a different interval, so that the rows show which one is armed.
 pub(crate) fn params() -> Option<Params> {
     let tables = FaultTables {
         send: cancelling(Role::Send),
@@ -138,7 +138,7 @@ fn what_of(alloc: Global, step: Step) -> Option<What> {
     }
 }
 
-// The event for the transaction with this key; a PDU has to be of that transaction.
+// The event for the transaction with this key; a PDU must be of that transaction.
 fn on(key: TxnKey, what: What) -> Option<Event>
     ensures { IfSome result IsKeyed }
 {

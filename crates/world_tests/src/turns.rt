@@ -47,7 +47,7 @@ fn look(world: &World, notes: &mut Notes, deposit: Deposit) {
     }
 }
 
-// Notes an entity's answer to an event.
+// Passes an event to an entity and notes its answer. Returns the transaction of an event that was accepted.
 fn tell(
     world: &mut World,
     notes: &mut Notes,
@@ -60,8 +60,8 @@ fn tell(
     }
 }
 
-// Passes an event to an entity, notes the answer, and checks the file that is handed out; the transaction of an event
-// that was taken.
+// Passes an event to an entity, notes the answer, and checks the file that is handed out. Returns the transaction of an
+// event that was accepted.
 fn step(
     world: &mut World,
     notes: &mut Notes,
@@ -121,7 +121,7 @@ fn file_at(notes: &Notes, key: Option<TxnKey>) -> Option<usize> {
     notes.place_of(key?)
 }
 
-// Notes a PDU that was sent: whether one was asked for.
+// Notes whether a PDU that was sent had been requested again.
 fn sent_again(notes: &mut Notes, taken: Option<TxnKey>) {
     let Some(place) = file_at(notes, taken) else {
         return;
@@ -153,7 +153,7 @@ pub(crate) fn deliver(
     Ok(())
 }
 
-// Notes that segments of a file were requested again: only the sender takes a NAK.
+// Notes that segments of a file were requested again: only the sender accepts a NAK.
 fn asked(notes: &mut Notes, taken: Option<TxnKey>) {
     let Some(place) = file_at(notes, taken) else {
         return;

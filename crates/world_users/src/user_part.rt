@@ -57,8 +57,8 @@ impl UserPart {
         self.queue.take()
     }
 
-    /// Why a lane of the user refuses a Put of this request when there is no memory to make the event: for a reason of
-    /// its own, otherwise with NoMemory.
+    /// The refusal of a Put of this request by a lane of the user, when there is no memory to make the event: the
+    /// lane's own reason if it has one, otherwise NoMemory.
     pub fn why_put_refused(&self, lane: usize, request: &PutRequest) -> Refused
         requires { lane < length self.now.lanes }
         ensures { (state : State) (params : ParamsParts) → slice_get self.now.lanes lane ≡ Some state

@@ -72,8 +72,8 @@ impl Users {
         self.parts[user].take()
     }
 
-    /// Why a lane of a user refuses a Put of this request when there is no memory to make the event: for a reason of
-    /// its own, otherwise with NoMemory.
+    /// The refusal of a Put of this request by a user's lane, when there is no memory to make the event: the lane's own
+    /// reason if it has one, otherwise NoMemory.
     pub fn why_put_refused(&self, user: usize, lane: usize, request: &PutRequest) -> Refused
         requires { MayHappen self.now user lane }
         ensures { (layout : Layout) (history : List Happening) (params : ParamsParts)

@@ -6,7 +6,7 @@ use receiver_core::ReceiverCore;
 use std::alloc::Global;
 use txn_events::What;
 
-// Receives an octet and the end by the sender; answers how many indications the user gets.
+// Receives an octet and the sender's cancel, and returns how many indications the user gets.
 fn receive_one(alloc: Global, offset: u32) -> Result<u64, Fault> {
     let pdu = file_data(alloc, offset, b"a")?;
     if !ReceiverCore::may_open(KEY, &pdu) {
@@ -23,7 +23,7 @@ fn receive_one(alloc: Global, offset: u32) -> Result<u64, Fault> {
     Ok(indications as u64)
 }
 
-/// Receives an octet at this offset so many times, each in its own reception, and counts the indications.
+/// Receives an octet at this offset this many times, each in its own reception, and counts the indications.
 pub(crate) fn receive(alloc: Global, offset: u32, times: u32) -> Result<u64, Fault> {
     let mut indications = 0u64;
     for _ in 0..times {

@@ -21,7 +21,7 @@ pub(crate) enum Order {
 }
 
 impl Order {
-    // The place of the segment that comes after so many others.
+    // The place of the segment that comes after this many others.
     fn place(self, number: u32, count: u32) -> u32 {
         match self {
             Order::Rising => number,
@@ -34,7 +34,7 @@ impl Order {
     }
 }
 
-/// What comes after the Metadata of a file of so many parts.
+/// What comes after the Metadata of a file in parts.
 #[derive(Clone, Copy)]
 pub(crate) enum Coming {
     /// The segments in order, and the EOF after them.
@@ -70,7 +70,7 @@ impl Coming {
         matches!(self, Coming::EofLast | Coming::EofFirst(_))
     }
 
-    // The PDU that comes after so many others.
+    // The PDU that comes after this many others.
     fn pdu(self, alloc: Global, file: &[u8], count: u32, number: u32) -> Result<Pdu, Fault> {
         match self {
             Coming::EofLast if number < count => segment(alloc, file, number),
@@ -127,12 +127,12 @@ fn step(core: &mut ReceiverCore, event: &What) -> Result<(u64, bool), Fault> {
     Ok((sent, answer.deposit.is_some()))
 }
 
-// Steps a reception, and answers how many PDUs it sends, and whether it gives the file to its store.
+// Steps a reception. Returns how many PDUs it sends, and whether it gives the file to its store.
 fn take(core: &mut ReceiverCore, pdu: Pdu) -> Result<(u64, bool), Fault> {
     step(core, &What::Pdu(pdu))
 }
 
-// Takes all that comes; how many PDUs are sent. A whole file is given to its store at the end.
+// Takes all that comes, and returns how many PDUs are sent. A whole file is given to its store at the end.
 fn take_all(
     alloc: Global,
     core: &mut ReceiverCore,

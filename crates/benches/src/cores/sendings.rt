@@ -20,9 +20,9 @@ const REQUESTS: u32 = 64;
 /// What a NAK asks for.
 #[derive(Clone, Copy)]
 pub(crate) enum Parts {
-    /// Whole segments, each second at most.
+    /// Whole segments, at most every second one.
     Segments,
-    /// Single octets, each second at most: as many runs as there can be.
+    /// Single octets, at most every second one: as many runs as there can be.
     Octets,
 }
 
@@ -74,7 +74,7 @@ fn step(core: &mut SenderCore, event: &What) -> Result<(), Fault> {
     Ok(())
 }
 
-// Sends the Metadata, so many segments and the EOF.
+// Sends the Metadata, this many segments and the EOF.
 fn send(core: &mut SenderCore, segments: u32) -> Result<u64, Fault> {
     for _ in 0..u64::from(segments) + 2 {
         step(core, &What::Pump)?;
@@ -82,7 +82,7 @@ fn send(core: &mut SenderCore, segments: u32) -> Result<u64, Fault> {
     Ok(u64::from(segments))
 }
 
-/// A file of so many segments, sent once.
+/// A file of this many segments, sent once.
 pub(crate) fn file(alloc: Global, segments: u32) -> Result<u64, Fault> {
     let mut core = opened(alloc, segments.saturating_mul(SEGMENT))?;
     send(&mut core, segments)
@@ -92,7 +92,7 @@ fn take(core: &mut SenderCore, nak: Pdu) -> Result<(), Fault> {
     step(core, &What::Pdu(nak))
 }
 
-// Sends the file, takes so many NAKs, and sends one part behind each.
+// Sends the file, receives this many NAKs, and sends one part after each.
 fn send_again(
     alloc: Global,
     core: &mut SenderCore,
@@ -107,7 +107,7 @@ fn send_again(
     Ok(u64::from(count))
 }
 
-/// A file that is sent, and so many NAKs, each for parts of it all over; one part is sent between two NAKs.
+/// A file that is sent, and this many NAKs, each for parts all over the file; one part is sent after each NAK.
 pub(crate) fn naks(alloc: Global, parts: Parts, count: u32) -> Result<u64, Fault> {
     let mut core = opened(alloc, FILE)?;
     send_again(alloc, &mut core, parts, count)

@@ -1,4 +1,4 @@
-//! What the measured transactions go by.
+//! The parameters of the measured transactions.
 use crate::fault::Fault;
 use cfdp_types::{
     Checksum, EntityId, ExpirationLimits, FaultTable, FaultTables, HandlerNotAllowed,

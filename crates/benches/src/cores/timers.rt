@@ -4,10 +4,10 @@ use cfdp_types::{EntityId, TimerKind, TimerOp, TxnKey};
 use std::alloc::{AllocError, Global};
 use timer_list::TimerList;
 
-/// Turns in which each tenth timer is armed again.
+/// Turns in which every tenth timer is armed again.
 const TURNS: u32 = 100;
 
-// How many timers come due while so many are armed, each tenth again in each turn, and some are taken out.
+// Returns how many timers come due while this many are armed, every tenth again in each turn, and some are taken out.
 fn turn(timers: &mut TimerList, count: u32) -> Result<u64, AllocError> {
     for seq in 0..count {
         timers.apply(arming(seq, 0), 0)?;
@@ -25,14 +25,14 @@ fn turn(timers: &mut TimerList, count: u32) -> Result<u64, AllocError> {
     Ok(due)
 }
 
-/// So many armed timers; in each turn each tenth is armed again, and the list is asked what is due. At the
-/// end some are taken out.
+/// Arms this many timers. In each turn every tenth is armed again, and the list is asked what is due. At the end some
+/// are taken out. Returns how many came due.
 pub(crate) fn turns(alloc: Global, count: u32) -> Result<u64, Fault> {
     let mut timers = TimerList::new(alloc);
     Ok(turn(&mut timers, count)?)
 }
 
-// How many timers are taken out where one that is due is asked for.
+// Asks for a timer that is due, and returns how many were taken out, 0 or 1.
 fn taken(timers: &mut TimerList, now: u64) -> u64 {
     u64::from(timers.due(now).is_some())
 }

@@ -21,7 +21,8 @@ pub(crate) struct Size {
     pub(crate) files: u8,
 }
 
-// Entity 2, which has eight lanes for the files of entity 1: the last three bits of a sequence number tell the lane.
+// Entity 2, which has eight lanes for the files of entity 1: the last three bits of a sequence number determine the
+// lane.
 const EIGHT_LANES: EntityText<'static> = EntityText {
     put_lanes: 1,
     receive_lanes: 8,
@@ -30,15 +31,16 @@ const EIGHT_LANES: EntityText<'static> = EntityText {
     ..REFERENCE
 };
 
-// How often the part of a file comes: all but the first bring nothing new, so nothing is indicated.
+// How often the part of a file is delivered: all but the first bring nothing new, so nothing is indicated.
 const REPEATS: u32 = 20_000;
 
-// Delivers a datagram; whether a lane took it.
+// Delivers a datagram, and returns whether a lane accepted it.
 fn is_taken<N: Names, R: Wait + Copy>(rt: &R, entity: &Entity<N, R>, octets: &[u8]) -> bool {
     matches!(entity.deliver(rt, &NoGate, octets), Ok(Ok(_)))
 }
 
-// A file begins to come, comes again and again, and is given up; how many datagrams were taken.
+// Delivers a file's Metadata, its part again and again, and the EOF that gives it up. Returns how many datagrams were
+// accepted; None if one wasn't.
 fn file<N: Names, R: Wait + Copy>(
     rt: &R,
     alloc: Global,
@@ -60,7 +62,8 @@ fn file<N: Names, R: Wait + Copy>(
     Ok(Some(u64::from(REPEATS) + 2))
 }
 
-// So many files come in a lane, one after the other; how many datagrams were taken.
+// Delivers this many files in a lane, one after the other. Returns how many datagrams were accepted; None if one
+// wasn't.
 fn files<N: Names, R: Wait + Copy>(
     rt: &R,
     alloc: Global,
@@ -88,7 +91,7 @@ fn lanes_of(alloc: Global, threads: u8) -> Result<Vec<u8>, AllocError> {
     Ok(lanes)
 }
 
-// How many datagrams were taken in all lanes.
+// How many datagrams were accepted in all lanes.
 fn sum_of(all: &[Result<Option<u64>, AllocError>]) -> Result<u64, Fault> {
     let mut taken = 0u64;
     for came in all {
@@ -101,7 +104,7 @@ fn sum_of(all: &[Result<Option<u64>, AllocError>]) -> Result<u64, Fault> {
     Ok(taken)
 }
 
-// Each thread has a lane of its own; how many datagrams were taken.
+// Each thread delivers in a lane of its own. Returns how many datagrams were accepted.
 fn deliver_all<N: Names + Send + Sync, R: Threads + Wait + Copy + Send + Sync>(
     rt: &R,
     alloc: Global,
@@ -116,7 +119,7 @@ fn deliver_all<N: Names + Send + Sync, R: Threads + Wait + Copy + Send + Sync>(
     sum_of(all.as_slice())
 }
 
-/// Delivers, and returns how many datagrams were taken.
+/// Delivers, and returns how many datagrams were accepted.
 pub(crate) fn come<R: Threads + Wait + Copy + Send + Sync>(
     rt: R,
     alloc: Global,
@@ -128,7 +131,8 @@ pub(crate) fn come<R: Threads + Wait + Copy + Send + Sync>(
     come_named::<Brand, R>(rt, alloc, config, queues, size)
 }
 
-// Delivers over queues that `N` names: what is proved of an entity speaks of them by that name, so it is a parameter.
+// Delivers over queues that `N` names: the proofs about an entity refer to its queues by that name, so it is a
+// parameter.
 fn come_named<N: Names + Send + Sync, R: Threads + Wait + Copy + Send + Sync>(
     rt: R,
     alloc: Global,

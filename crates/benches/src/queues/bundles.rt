@@ -6,7 +6,7 @@ use cfdp_types::{Condition, EntityId, TxnKey};
 use indications::{Bundle, Indication, Indications};
 use std::alloc::{AllocError, Global};
 
-// How many a progress may be.
+// The number of different progress values.
 const PROGRESSES: u64 = 4_294_967_296;
 
 /// The only bundle of the transaction with a number, which is also its progress.

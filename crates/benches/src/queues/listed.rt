@@ -35,7 +35,7 @@ fn put_next(alloc: Global, queue: &mut ListQueue, number: u64) -> Result<(), All
     Ok(())
 }
 
-// Whether a bundle came.
+// Takes a bundle, and returns whether one came.
 fn take_one(queue: &mut ListQueue, number: u64) -> bool
     requires holds { HoldsOver queue.old number }
     ensures { HoldsOver queue.new (number + 1) }
@@ -43,7 +43,7 @@ fn take_one(queue: &mut ListQueue, number: u64) -> bool
     queue.take().is_some()
 }
 
-// An offer or a take; whether a bundle came.
+// Offers or takes a bundle. Returns whether a bundle came.
 fn turn(
     alloc: Global,
     queue: &mut ListQueue,
@@ -61,7 +61,7 @@ fn turn(
     Ok(take_one(queue, number))
 }
 
-/// Offers fill the queue and takes empty it, again and again, in twice so many turns; how many bundles came.
+/// Offers fill the queue and takes empty it, again and again, in twice `count` turns. Returns how many bundles came.
 pub(crate) fn come(alloc: Global, room: usize, count: u32) -> Result<u64, Fault> {
     if room == 0 {
         return Err(Fault::Usage);

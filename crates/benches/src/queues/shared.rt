@@ -16,7 +16,7 @@ use user_queues::{LaneOutlet, UserPort, UserQueue, open};
 // How often one bundle is offered or waited for.
 const TURNS: u32 = 10_000_000;
 
-// Offers the bundle again and again; whether it was taken.
+// Offers the bundle again and again, and returns whether it was taken.
 fn offer<R: Wait + Copy>(outlet: &mut LaneOutlet<R>, bundle: Bundle) -> bool
     requires of_user { bundle.user ≡ outlet.old.knows.user }
     requires of_lane { bundle.lane ≡ outlet.old.knows.lane }
@@ -34,7 +34,7 @@ fn offer<R: Wait + Copy>(outlet: &mut LaneOutlet<R>, bundle: Bundle) -> bool
     false
 }
 
-// Whether so many bundles of a lane were taken.
+// Sends this many bundles of a lane, and returns whether all were taken.
 fn produce<R: Wait + Copy>(
     alloc: Global,
     outlet: &mut LaneOutlet<R>,
@@ -52,7 +52,7 @@ fn produce<R: Wait + Copy>(
     Ok(true)
 }
 
-// All lanes send, each in a thread of its own; whether all bundles were taken.
+// Has all lanes send, each in a thread of its own, and returns whether all bundles were taken.
 fn produce_all<R: Threads + Wait + Copy + Send + Sync>(
     rt: &R,
     alloc: Global,
@@ -80,7 +80,7 @@ fn produce_all<R: Threads + Wait + Copy + Send + Sync>(
     Ok(true)
 }
 
-// Waits for a bundle; whether one came.
+// Waits for a bundle, and returns whether one came.
 fn takes_one<R: Wait>(rt: &R, port: &mut UserPort) -> bool {
     for _ in 0..TURNS {
         if port.take(rt).is_some() {
@@ -91,7 +91,7 @@ fn takes_one<R: Wait>(rt: &R, port: &mut UserPort) -> bool {
     false
 }
 
-// How many of so many bundles came.
+// Takes this many bundles, and returns how many came.
 fn consume<R: Wait>(rt: &R, port: &mut UserPort, count: u64) -> u64 {
     for came in 0..count {
         if !takes_one(rt, port) {
@@ -101,7 +101,7 @@ fn consume<R: Wait>(rt: &R, port: &mut UserPort, count: u64) -> u64 {
     count
 }
 
-// The ends of the queue of the only user, with room for so many bundles.
+// The ends of the queue of the only user, with room for this many bundles.
 fn ends<R: Wait + Copy>(
     rt: R,
     alloc: Global,
@@ -119,7 +119,7 @@ fn ends<R: Wait + Copy>(
     Ok(Some(only))
 }
 
-/// Each of so many lanes sends so many bundles to a queue with room for some; how many came.
+/// Each of `lanes` lanes sends `count` bundles to a queue with room for `room`. Returns how many came.
 pub(crate) fn come<R: Threads + Wait + Copy + Send + Sync>(
     rt: R,
     alloc: Global,

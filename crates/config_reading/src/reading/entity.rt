@@ -63,7 +63,7 @@ pub fn entity_in(table: &Table) -> Result<EntitySettings, ConfigFault>
     })
 }
 
-/// The greatest ID that a configuration may name for IDs of so many octets.
+/// The greatest ID that a configuration may name for IDs of this many octets.
 pub(crate) fn greatest_id(octets: u8) -> u64
     requires { octets ≤ ID_OCTETS }
     ensures { result ≡ greatest_id octets }

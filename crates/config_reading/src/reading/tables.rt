@@ -43,7 +43,7 @@ fn is_one_of(name: &str, keys: &[Key]) -> bool
     keys.iter().any(|key| key.name() == name)
 }
 
-/// The value as a table.
+/// The value as a table; `WrongType` for the key where it is not one.
 pub fn table_of(value: &Value, key: Key) -> Result<&Table, ConfigFault>
     ensures { seen (λ table. table_view table.now) result ≡ table_of key (view value.now) }
 {
@@ -53,7 +53,8 @@ pub fn table_of(value: &Value, key: Key) -> Result<&Table, ConfigFault>
     }
 }
 
-/// The tables of an array, whose number is from `least` to `most`.
+/// The tables of an array, whose number is from `least` to `most`. `WrongType` where the value isn't an array of
+/// tables, `OutOfRange` where there are fewer or more.
 pub fn counted(
     alloc: Global,
     value: &Value,

@@ -10,7 +10,8 @@ use crate::fault::{ConfigFault, Key};
 use cfdp_types::limits::USER_NAME_OCTETS;
 use toml::Value;
 
-/// A user's name: letters from a to z and digits.
+/// A user's name: letters from a to z and digits. `WrongType` where the value is not text, `OutOfRange` where the text
+/// is not a name.
 pub(crate) fn name_of(value: &Value, key: Key) -> Result<&str, ConfigFault>
     ensures { seen (λ name. name.now) result ≡ name_of key (view value.now) }
 {
@@ -23,7 +24,8 @@ pub(crate) fn name_of(value: &Value, key: Key) -> Result<&str, ConfigFault>
     Ok(name)
 }
 
-/// An address: an IPv4 address in dotted decimals, a colon and a port.
+/// An address: an IPv4 address in dotted decimals, a colon and a port. `WrongType` where the value is not text,
+/// `BadAddress` where the text is not an address.
 pub(crate) fn address_in(value: &Value) -> Result<&str, ConfigFault>
     ensures { seen (λ address. address.now) result ≡ address_in (view value.now) }
 {
