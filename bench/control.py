@@ -72,12 +72,11 @@ class Client:
 
 
 @contextlib.contextmanager
-def serving(program, configured, port, *more):
-    words = [program, "--config", configured, "--bind", f"127.0.0.1:{port}", "--folder", "received", "--control", "control", *more]
-    pathlib.Path("received").mkdir(exist_ok=True)
-    process = subprocess.Popen(words, stdin=subprocess.DEVNULL, env=dict(os.environ, MALLOC_ARENA_MAX="1"))
+def serving(program, configured, port, *more, workers=4):
+    station = programs.Station(program, configured, port, more, workers, env=dict(os.environ, MALLOC_ARENA_MAX="1"))
+    station.client.close()
+    process = station.process
     try:
-        programs.wait_for(lambda: os.path.exists("control"))
         yield process
         Client().ask(b"quit")
         process.wait(20)
@@ -97,7 +96,7 @@ def status(program):
     port, peer = programs.free_ports(2)
     pathlib.Path("wide").write_text(config(peer))
     pathlib.Path("file").write_bytes(bytes(100_000))
-    with serving(program, "wide", port, "--rate", "1000"):
+    with serving(program, "wide", port, "sending.rate = 1000"):
         client = Client()
         for user in range(USERS):
             for lane in range(PUT_LANES):
@@ -124,7 +123,7 @@ def load(program, follows):
     port, peer = programs.free_ports(2)
     pathlib.Path("wide").write_text(config(peer))
     stop = threading.Event()
-    with serving(program, "wide", port, "--workers", "2"):
+    with serving(program, "wide", port, workers=2):
         client, follower = Client(), Client()
         if follows:
             follower.ask(b"follow")

@@ -3,9 +3,9 @@ faults that a datagram costs a server.
 
 usage: datagrams.py SERVER PUT
 
-The server runs under valgrind with one worker and `--follow`. It is sent the Metadata and the File Data PDUs of one transaction in
-class 2, in order and at a pace, so that none is lost, and then it quits; the put runs under valgrind and sends a file to a
-server beside it, in class 2 and at a rate. Each does so for two sizes: the difference, by PDU, is what one PDU costs.
+The station runs under valgrind with one worker, as a service to which nobody listens. It is sent the Metadata and the File Data PDUs of
+one transaction in class 2, in order and at a pace, so that none is lost, and then it quits; the put runs under valgrind and sends a
+file to a server beside it, in class 2 and at a rate. Each does so for two sizes: the difference, by PDU, is what one PDU costs.
 """
 
 import os
@@ -65,26 +65,24 @@ def datagrams(parts):
         yield pdu(0x30, (place * PART).to_bytes(4, "big") + bytes(PART))
 
 
+def taken(station):
+    """How many PDUs of the transaction a station has taken."""
+    words = station.client.ask("trace 1 1")[0].split()
+    return int(words[1]) if words[0] == "trace" else 0
+
+
 def server_cost(program, parts):
     """The instructions of a server that receives so many parts, all of which it has to have taken."""
     port, nobody = programs.free_ports(2)
     config = programs.configure("ground.toml", nobody)
     pathlib.Path("received").mkdir(exist_ok=True)
-    words = [program, "--config", config, "--bind", f"127.0.0.1:{port}", "--folder", "received", "--workers", "1", "--follow"]
-    with open("told", "w", encoding="ascii") as told:
-        process = subprocess.Popen(counting("out") + words, stdin=subprocess.PIPE, stdout=told, stderr=subprocess.DEVNULL)
-        process.stdin.write(b"trace 2 1\n")
-        process.stdin.flush()
-        programs.wait_for(lambda: os.path.getsize("told") > 0, 60)
-        with socket.socket(socket.AF_INET, socket.SOCK_DGRAM) as way:
-            for datagram in datagrams(parts):
-                way.sendto(datagram, ("127.0.0.1", port))
-                time.sleep(PAUSE)
-        programs.wait_for(lambda: pathlib.Path("told").read_text().count("File-Segment-Recv") >= parts, 120)
-        process.stdin.write(b"quit\n")
-        process.stdin.close()
-        if process.wait(timeout=120):
-            sys.exit("the server failed")
+    station = programs.Station(program, config, port, workers=1, tool=counting("out"))
+    with socket.socket(socket.AF_INET, socket.SOCK_DGRAM) as way:
+        for datagram in datagrams(parts):
+            way.sendto(datagram, ("127.0.0.1", port))
+            time.sleep(PAUSE)
+    programs.wait_for(lambda: taken(station) > parts, 120)
+    station.end(120)
     return counted("out")
 
 
@@ -93,8 +91,7 @@ def transfer(server, put, parts, rate, tool=()):
     at_server, at_put = programs.free_ports(2)
     configs = programs.configure("ground.toml", at_put), programs.configure("spacecraft.toml", at_server)
     pathlib.Path("image").write_bytes(random.Random(7).randbytes(parts * PART))
-    with programs.serving(server, configs[0], at_server, words=["--follow"], told=subprocess.DEVNULL) as running:
-        running.tell("trace 2 1")
+    with programs.standing(server, configs[0], at_server) as running:
         time.sleep(0.3)
         before = programs.minor_faults(running.process.pid)
         words = ["--bind", f"127.0.0.1:{at_put}", "--user", "alice", "--remote", "2", "--class", "2", "--rate", str(rate)]

@@ -26,7 +26,7 @@ import time
 
 TOP = pathlib.Path(__file__).resolve().parent.parent
 sys.path.insert(0, str(TOP / "tests"))
-from support import Running, free_port, part_of  # noqa: E402
+from support import Running, free_port, part_of, station_text  # noqa: E402
 
 SECONDS = 240
 MB = 1_000_000
@@ -207,10 +207,11 @@ class Ground(Running):
         self.number, self.port = number, port
         self.folder = pathlib.Path(f"received{number}")
         self.folder.mkdir()
-        pathlib.Path(f"config{number}").write_text(text(case, number, peers))
+        told = (f"sending.rate = {case.rate}",)
+        made = station_text(text(case, number, peers), f"127.0.0.1:{port}", str(self.folder), f"control{number}", told, workers)
+        pathlib.Path(f"station{number}.toml").write_text(made)
         self.users = {"entity.toml": ["alice", "bob"], "station.toml": ["ops"]}.get(case.example) or [f"user{n}" for n in range(case.users)]
-        words = [server, "--config", f"config{number}", "--bind", f"127.0.0.1:{port}", "--folder", str(self.folder), "--rate", str(case.rate)]
-        super().__init__(words, f"control{number}", workers)
+        super().__init__(server, f"station{number}.toml", f"control{number}")
         self.orders, self.files = [], {}
 
     def order(self, other, case, peer_of):

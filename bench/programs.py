@@ -23,6 +23,9 @@ import time
 
 import bars
 
+sys.path.insert(0, str(pathlib.Path(__file__).resolve().parent.parent / "tests"))
+from support import Client, station_text  # noqa: E402
+
 RUNS = 5
 
 # The file, and the segment of it that a PDU has, after a header and an offset of 11 octets.
@@ -92,12 +95,12 @@ def minor_faults(pid):
 
 
 class Server:
-    """A server that answers commands. What it prints goes into a file where its user follows, and else comes here."""
+    """An entity by options, which answers commands of the standard input."""
 
-    def __init__(self, program, config, port, words=(), told=None):
+    def __init__(self, program, config, port, words=()):
         pathlib.Path("received").mkdir(exist_ok=True)
         line = [program, "--config", config, "--bind", f"127.0.0.1:{port}", "--folder", "received", *words]
-        self.process = subprocess.Popen(line, stdin=subprocess.PIPE, stdout=told or subprocess.PIPE, text=True)
+        self.process = subprocess.Popen(line, stdin=subprocess.PIPE, stdout=subprocess.PIPE, text=True)
 
     def ask(self, command):
         """Asks something, and answers the line that comes."""
@@ -116,6 +119,39 @@ class Server:
         self.tell("quit")
         if self.process.wait(timeout=30):
             sys.exit("the server failed")
+
+
+class Station:
+    """A station by its file, as it runs as a service: it takes what users receive itself, and nobody follows."""
+
+    def __init__(self, program, config, port, told=(), workers=4, tool=(), **around):
+        pathlib.Path("received").mkdir(exist_ok=True)
+        text = station_text(pathlib.Path(config).read_text(), f"127.0.0.1:{port}", "received", "control", told, workers)
+        pathlib.Path("station.toml").write_text(text)
+        self.process = subprocess.Popen([*tool, program, "station.toml"], stdin=subprocess.DEVNULL, stderr=subprocess.DEVNULL, **around)
+        wait_for(lambda: os.path.exists("control"), 60)
+        self.client = Client("control", 120)
+
+    def spent(self):
+        return processor_seconds(self.process.pid)
+
+    def end(self, seconds=30):
+        self.client.ask("quit")
+        self.client.close()
+        if self.process.wait(timeout=seconds):
+            sys.exit("the station failed")
+
+
+@contextlib.contextmanager
+def standing(*words, **more):
+    """A station for as long as the block runs."""
+    station = Station(*words, **more)
+    try:
+        yield station
+        station.end()
+    finally:
+        station.process.kill()
+        station.process.wait()
 
 
 @contextlib.contextmanager
@@ -154,15 +190,11 @@ def transfer(server_program, put_program, workers=4, more=()):
     """Moves a file, and answers the seconds that the put takes, its processor time and the server's."""
     at_server, at_put = free_ports(2)
     configs = configure("ground.toml", at_put), configure("spacecraft.toml", at_server)
-    follows = ["--follow", "--workers", str(workers)]
-    with open("told", "w", encoding="ascii") as told:
-        with serving(server_program, configs[0], at_server, words=follows, told=told) as server:
-            server.tell("trace 2 1")
-            wait_for(lambda: os.path.getsize("told") > 0)
-            before = server.spent()
-            words = ["--bind", f"127.0.0.1:{at_put}", "--user", "alice", "--remote", "2", "--class", "2", *more]
-            took, spent = timed([put_program, "--config", configs[1], *words, "image", "image.received"])
-            spent_there = server.spent() - before
+    with standing(server_program, configs[0], at_server, workers=workers) as server:
+        before = server.spent()
+        words = ["--bind", f"127.0.0.1:{at_put}", "--user", "alice", "--remote", "2", "--class", "2", *more]
+        took, spent = timed([put_program, "--config", configs[1], *words, "image", "image.received"])
+        spent_there = server.spent() - before
     received = pathlib.Path("received", "image.received")
     if received.read_bytes() != pathlib.Path("image").read_bytes():
         sys.exit("the received file differs")

@@ -51,16 +51,17 @@ for one in found:
 print(*[one.getsockname()[1] for one in found])
 PORTS
 )
-sed "s/@PEER@/$at_put/" "$top/examples/transfer/ground.toml" > "$work/ground.toml"
+{
+    printf '[station]\nbind = "127.0.0.1:%s"\n[store]\nfolder = "received"\n[control]\nsocket = "control"\n' "$at_server"
+    sed "s/@PEER@/$at_put/" "$top/examples/transfer/ground.toml"
+} > "$work/ground.toml"
 # The put may be compiled first: it then repeats its EOF until the server is there.
 sed "s/@PEER@/$at_server/; s/^ack_limit = .*/ack_limit = 255/" "$top/examples/transfer/spacecraft.toml" > "$work/spacecraft.toml"
-mkdir "$work/received"
 head -c "$octets" /dev/urandom > "$work/image"
 
 echo "A file of $octets octets goes from cfdp_put to cfdp_server over loopback, in class 2, with nothing proved."
 echo "Compiling and starting both programs: one to two minutes."
-(runs cfdp_server --config "$work/ground.toml" --bind "127.0.0.1:$at_server" --folder "$work/received" \
-    --control "$work/control" > "$work/server.log" 2>&1 < /dev/null) &
+(runs cfdp_server "$work/ground.toml" > "$work/server.log" 2>&1 < /dev/null) &
 serving=$!
 (runs cfdp_put --config "$work/spacecraft.toml" --bind "127.0.0.1:$at_put" --user alice --remote 2 --class 2 --rate 2000000 \
     "$work/image" image.received > "$work/put.log" 2>&1 < /dev/null) &

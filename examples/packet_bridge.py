@@ -6,11 +6,14 @@
 
 A datagram from the server leaves for the peer with the octets of --head in front: a packet's header, in which the bridge fills in the
 sequence count and the length. A packet from the peer loses the first octets that --strip says, and goes to the server. The bridge runs
-until it is ended.
+until it is ended. What the system doesn't send (a datagram too long, an address that nobody listens at or that can't be reached) is
+lost as on any link; the bridge counts it, and says so on the standard error, once a second at most.
 """
 import argparse
 import select
 import socket
+import sys
+import time
 
 PRIMARY = 6
 LONGEST = 65_542
@@ -56,23 +59,48 @@ def pdu_of(octets, strip, apid):
     return octets[strip:]
 
 
+class Way:
+    """Where a socket's datagrams go, and how many the system didn't send there."""
+
+    def __init__(self, line, place):
+        self.line, self.place, self.lost, self.told = line, place, 0, 0.0
+
+    def send(self, octets):
+        try:
+            self.line.sendto(octets, self.place)
+        except OSError as why:
+            self.lost += 1
+            if time.monotonic() - self.told >= 1:
+                self.told = time.monotonic()
+                print(f"packet_bridge: not sent to {self.place[0]}:{self.place[1]}: {why.strerror}; {self.lost} so far", file=sys.stderr, flush=True)
+
+
+def next_from(line):
+    """What a socket received; nothing where it has an error of an earlier send to tell."""
+    try:
+        return line.recv(LONGEST)
+    except OSError:
+        return b""
+
+
 def main():
     given = words()
     plain, packed = (socket.socket(socket.AF_INET, socket.SOCK_DGRAM) for _ in range(2))
     for one, place in ((plain, given.listen), (packed, given.packets)):
         one.setsockopt(socket.SOL_SOCKET, socket.SO_RCVBUF, 4_000_000)
         one.bind(place)
+    to_peer, to_station = Way(packed, given.peer), Way(plain, given.station)
     count = 0
     while True:
         for one in select.select([plain, packed], [], [])[0]:
-            octets = one.recv(LONGEST)
-            if one is plain:
-                packed.sendto(packet(given.head, count, octets), given.peer)
+            octets = next_from(one)
+            if one is plain and octets:
+                to_peer.send(packet(given.head, count, octets))
                 count += 1
-            else:
+            elif one is packed:
                 pdu = pdu_of(octets, given.strip, given.apid)
                 if pdu:
-                    plain.sendto(pdu, given.station)
+                    to_station.send(pdu)
 
 
 if __name__ == "__main__":

@@ -53,6 +53,17 @@
 extern "C" {
 #endif
 
+/* The version of the library: its name, and its numbers. cfdp_version says with which interface a library was built. */
+#define CFDP_VERSION_STRING "0.1"
+#define CFDP_VERSION_MAJOR 0
+#define CFDP_VERSION_MINOR 1
+
+/*
+ * The octets of a buffer into which each PDU fits that an entity sends. The longest is a Metadata PDU with IDs of eight
+ * octets, two names of 255 octets and four messages of 255 octets: 1,574.
+ */
+#define CFDP_PDU_MAX 1600
+
 /* A handle. Its fields are the library's own. */
 typedef struct cfdp {
     bool live;
@@ -197,8 +208,11 @@ int32_t cfdp_put(cfdp_t *handle, size_t user, size_t lane, uint64_t destination,
                  const uint8_t *source_name, size_t source_name_len, const uint8_t *destination_name,
                  size_t destination_name_len, const uint8_t *file, size_t file_len, cfdp_done_t *done);
 
-/* Adds a message to the user for the next Put; the next Put takes all of them, even one that is refused. */
+/* Adds a message to the user for the next Put; the next Put takes all of them, whatever it returns. */
 int32_t cfdp_message(cfdp_t *handle, const uint8_t *octets, size_t len);
+
+/* Drops the messages that were added for the next Put. */
+int32_t cfdp_message_clear(cfdp_t *handle);
 
 /* A user requests something of its transaction: CFDP_CANCEL .. Also CFDP_BAD_NUMBER, CFDP_UNKNOWN. */
 int32_t cfdp_request(cfdp_t *handle, size_t user, uint32_t kind, uint64_t source, uint64_t seq, cfdp_done_t *done);
@@ -219,7 +233,7 @@ int32_t cfdp_stored(cfdp_t *handle, uint64_t source, uint64_t seq, uint32_t stam
  * What the last event left, by index from 0; CFDP_NOTHING if the index is too large.
  */
 
-/* Copies a PDU. A buffer of 1,500 octets is enough for what a sender sends. Also CFDP_NO_ROOM, CFDP_NO_MEMORY. */
+/* Copies a PDU. A buffer of CFDP_PDU_MAX octets is enough. Also CFDP_NO_ROOM, CFDP_NO_MEMORY. */
 int32_t cfdp_pdu(cfdp_t *handle, size_t index, uint8_t *buffer, size_t room, size_t *len);
 
 /* Returns a timer operation. Carry them out in order. */
@@ -267,6 +281,114 @@ int32_t cfdp_refusal_name(uint32_t refusal, uint8_t *buffer, size_t room, size_t
 #define CFDP_VERSION 1u
 uint32_t cfdp_version(void);
 
+/* ---- texts, which are there as long as the program runs */
+
+/* What a code says. */
+static inline const char *cfdp_strerror(int32_t code) {
+    switch (code) {
+    case CFDP_OK: return "done";
+    case CFDP_REFUSED: return "the entity refused the event";
+    case CFDP_NOTHING: return "there is no such thing";
+    case CFDP_CLOSED: return "the handle is closed";
+    case CFDP_OPEN: return "the handle is open already";
+    case CFDP_NO_MEMORY: return "memory ran out";
+    case CFDP_NO_ROOM: return "the buffer is too small";
+    case CFDP_BAD_NUMBER: return "no class, timer or request has this number";
+    case CFDP_UNKNOWN: return "the entity has no such user or sending lane";
+    case CFDP_BAD_CONFIG: return "the configuration was refused";
+    case CFDP_NO_NAME: return "a file name is empty";
+    case CFDP_NAME_TOO_LONG: return "a file name has more than 255 octets";
+    case CFDP_MESSAGE_TOO_LONG: return "a message has more than 255 octets";
+    case CFDP_TOO_MANY_MESSAGES: return "a Put has more than 4 messages";
+    case CFDP_NULL: return "a pointer is null";
+    default: return "unknown code";
+    }
+}
+
+/* The name of a condition code of the standard. */
+static inline const char *cfdp_condition_text(uint32_t condition) {
+    switch (condition) {
+    case 0: return "No error";
+    case 1: return "Positive ACK limit reached";
+    case 2: return "Keep alive limit reached";
+    case 3: return "Invalid transmission mode";
+    case 4: return "Filestore rejection";
+    case 5: return "File checksum failure";
+    case 6: return "File size error";
+    case 7: return "NAK limit reached";
+    case 8: return "Inactivity detected";
+    case 9: return "Invalid file structure";
+    case 10: return "Check limit reached";
+    case 11: return "Unsupported checksum type";
+    case 14: return "Suspend.request received";
+    case 15: return "Cancel.request received";
+    default: return "unknown condition";
+    }
+}
+
+/* The name of a kind of indication. */
+static inline const char *cfdp_kind_text(uint32_t kind) {
+    switch (kind) {
+    case CFDP_IND_TRANSACTION: return "Transaction";
+    case CFDP_IND_EOF_SENT: return "EOF-Sent";
+    case CFDP_IND_EOF_RECV: return "EOF-Recv";
+    case CFDP_IND_FINISHED: return "Transaction-Finished";
+    case CFDP_IND_METADATA_RECV: return "Metadata-Recv";
+    case CFDP_IND_FILE_SEGMENT_RECV: return "File-Segment-Recv";
+    case CFDP_IND_SUSPENDED: return "Suspended";
+    case CFDP_IND_RESUMED: return "Resumed";
+    case CFDP_IND_REPORT: return "Report";
+    case CFDP_IND_FAULT: return "Fault";
+    case CFDP_IND_ABANDONED: return "Abandoned";
+    default: return "unknown indication";
+    }
+}
+
+/* The name of a timer. */
+static inline const char *cfdp_timer_text(uint32_t kind) {
+    switch (kind) {
+    case CFDP_TIMER_ACK: return "ACK";
+    case CFDP_TIMER_NAK: return "NAK";
+    case CFDP_TIMER_CHECK: return "Check";
+    case CFDP_TIMER_INACTIVITY: return "Inactivity";
+    default: return "unknown timer";
+    }
+}
+
+/* What the decoding fault of a datagram says (`fault` with refusal 20). */
+static inline const char *cfdp_decode_text(uint32_t fault) {
+    switch (fault) {
+    case 1: return "too short for a header";
+    case 2: return "not version 1 of the protocol";
+    case 3: return "the CRC flag is set, and this entity computes no CRC";
+    case 5: return "the data field's length is not the datagram's";
+    case 6: return "unknown directive";
+    case 7: return "the data field is cut, or goes on after its last field";
+    case 8: return "a file name is empty";
+    case 9: return "memory ran out";
+    default: return "unknown fault";
+    }
+}
+
+/* What the fault of a configuration says (`fault` of cfdp_open). */
+static inline const char *cfdp_config_text(uint32_t fault) {
+    switch (fault) {
+    case 1: return "not TOML";
+    case 2: return "a key is missing";
+    case 3: return "a value has the wrong type";
+    case 4: return "a value is out of range";
+    case 5: return "unknown key";
+    case 6: return "two users have one name";
+    case 7: return "two remote entities have one ID, or one has this entity's";
+    case 8: return "unknown user";
+    case 9: return "more than eight remote entities have one user";
+    case 10: return "a handler that the table may not have";
+    case 11: return "not an address A.B.C.D:PORT";
+    case 12: return "memory ran out";
+    default: return "unknown fault";
+    }
+}
+
 /* ---- tests of null pointers, before the calls */
 
 #ifndef CFDP_UNCHECKED
@@ -291,14 +413,18 @@ static inline int32_t cfdp_checked_put(cfdp_t *h, size_t user, size_t lane, uint
                                        bool closure, const uint8_t *source_name, size_t source_name_len,
                                        const uint8_t *destination_name, size_t destination_name_len,
                                        const uint8_t *file, size_t file_len, cfdp_done_t *done) {
-    if (!h || (!source_name && source_name_len) || (!destination_name && destination_name_len) || (!file && file_len) || !done)
+    if (!h) return CFDP_NULL;
+    if ((!source_name && source_name_len) || (!destination_name && destination_name_len) || (!file && file_len) || !done) {
+        (void)cfdp_message_clear(h);
         return CFDP_NULL;
+    }
     return cfdp_put(h, user, lane, destination, service, closure, cfdp_some(source_name), source_name_len,
                     cfdp_some(destination_name), destination_name_len, cfdp_some(file), file_len, done);
 }
 static inline int32_t cfdp_checked_message(cfdp_t *h, const uint8_t *octets, size_t len) {
     return h && (octets || !len) ? cfdp_message(h, cfdp_some(octets), len) : CFDP_NULL;
 }
+static inline int32_t cfdp_checked_message_clear(cfdp_t *h) { return h ? cfdp_message_clear(h) : CFDP_NULL; }
 static inline int32_t cfdp_checked_request(cfdp_t *h, size_t user, uint32_t kind, uint64_t source, uint64_t seq,
                                            cfdp_done_t *done) {
     return h && done ? cfdp_request(h, user, kind, source, seq, done) : CFDP_NULL;
@@ -360,6 +486,7 @@ static inline int32_t cfdp_checked_refusal_name(uint32_t refusal, uint8_t *buffe
 #define cfdp_deliver cfdp_checked_deliver
 #define cfdp_put cfdp_checked_put
 #define cfdp_message cfdp_checked_message
+#define cfdp_message_clear cfdp_checked_message_clear
 #define cfdp_request cfdp_checked_request
 #define cfdp_pump cfdp_checked_pump
 #define cfdp_timer cfdp_checked_timer

@@ -1,9 +1,9 @@
 #!/usr/bin/env python3
 """Tests the console in Chromium, as a person sees it: tests/browser.py CFDP_WEB SERVER [PICTURE].
 
-A simulated station has what a real one shows seldom; what --counters and --explain add comes from a real one with traffic. Needs
+A simulated station has what a real one shows seldom; what a station counts and explains comes from a real one with traffic. Needs
 Debian's package chromium; uses promtool of the package prometheus if it is installed. Chromium is driven over its DevTools port. A
-picture is written to PICTURE, if that is given."""
+picture is written to PICTURE, if that is given, and beside it that of a phone and a dark one."""
 import base64
 import http.client
 import json
@@ -25,7 +25,7 @@ here = os.path.dirname(os.path.abspath(__file__))
 folder = tempfile.TemporaryDirectory(ignore_cleanup_errors=True)
 control = os.path.join(folder.name, "control")
 TOKEN = "a-token-of-the-test"
-TABLES = ("active", "ended", "users", "remotes", "outbox", "reading", "storing", "parked", "refusals")
+TABLES = ("active", "ended", "users", "remotes", "outbox", "reading", "storing", "counts", "parked", "refusals")
 started = []
 bad = []
 
@@ -167,14 +167,21 @@ def look(tab, port):
           and tab.value("document.getElementById('s-parked').classList.contains('hidden')") is False)
     check("files being stored", "9.42" in tab.text("storing") and "no space is left" in tab.text("storing"))
     check("recordings", "recordings: 7 kept, 2 missed, 1 failed" in tab.text("facts"))
-    check("what needs somebody", "1 received file can't be stored: no space is left; 1 recording failed; refused in the last minute: DecodeFault."
-          in tab.text("needs") and tab.value("document.title") == "(3) CFDP entity 1")
+    check(f"alarms, the worst first {alarms(tab)}", alarms(tab)[0] == "critical: 1 received file can't be stored: no space is left"
+          and sorted(alarms(tab)[1:]) == ["warning: 1 recording failed", "warning: DecodeFault was refused, from 192.0.2.1:4556"]
+          and tab.value("document.title") == "(3) CFDP entity 1" and tab.text("alarm-count") == "3 alarms")
+    check("one of each, and several", "1 datagram, 9 B" in tab.text("remotes") and "12 datagrams in, 3 out, 1 refused, 1 file kept" in tab.text("facts"))
+    ticks(tab)
     check("an empty table takes a line", tab.value("document.getElementById('outbox').offsetHeight") == 0)
     check("names are text", "<img src=x onerror=" in tab.text("active") + tab.text("ended")
           and tab.value("document.images.length") == 0 and tab.value("document.scripts.length") == 1)
     check("an event", wait_for(lambda: "start" in tab.text("events")))
-    check("a chart of octets", wait_for(lambda: "L" in (tab.value("document.getElementById('chart-in').getAttribute('d')") or ""))
-          and "In (line) 0 B/s, out (dashes) 0 B/s" in tab.text("chart-text"))
+    tab.value("document.getElementById('charts').scrollIntoView()")
+    for link, name in (("all", "All links"), ("5", "Entity 5"), ("7", "Entity 7")):
+        check(f"a chart, {name}", wait_for(lambda: "L" in line_of(tab, link, "in"))
+              and f"{name} in (line) 0 B/s, out (dashes) 0 B/s. Since " in tab.value(chart_of(link) + ".textContent"))
+    check(f"axes with units and moments {labels_of(tab, 'all')}", labels_of(tab, "all")[:5] == ["0 B/s", "1 B/s", "2 B/s", "3 B/s", "4 B/s"]
+          and len(labels_of(tab, "all")) in (10, 11) and all(re.fullmatch("[0-9]{2}:[0-9]{2}Z", label) for label in labels_of(tab, "all")[5:]))
     check("when an entity was heard", "before " in tab.text("remotes"))
     check("one ends, in words", wait_for(lambda: "✓ complete, retained" in tab.text("ended"), 60))
     for width in (360, 1280, 1600):
@@ -193,6 +200,53 @@ def look(tab, port):
     enter(tab, "by-txn", "")
 
 
+def alarms(tab):
+    """The alarms in their order: severity and words. Each has its moment."""
+    found = tab.value("[...document.querySelectorAll('#alarms li')].map(li => [...li.children].map(child => child.textContent))")
+    assert all(re.fullmatch("[0-9-]{10} [0-9:]{8}Z", moment) and button == "Acknowledge" for _, moment, _, button in found), found
+    return [f"{severity}: {words}" for severity, _, words, _ in found]
+
+
+def acknowledge(tab, words):
+    tab.value(f"[...document.querySelectorAll('#alarms button')].find(button => button.ariaLabel.startsWith('Acknowledge: {words}')).click()")
+
+
+def ticks(tab):
+    """The clock is in UTC, and goes."""
+    first, here = tab.text("time"), time.time()
+    near = [time.strftime("%H:%M:%S", time.gmtime(here + late)) for late in (-2, -1, 0, 1)]
+    check(f"the clock {first}", first in near and tab.text("day") == time.strftime("%Y-%m-%d", time.gmtime(here))
+          and tab.value("document.getElementById('clock').textContent").endswith(" UTC"))
+    check("the clock goes", wait_for(lambda: tab.text("time") > first or tab.text("time").startswith("00:00:")))
+
+
+def chart_of(link):
+    return f"document.querySelector('#charts figure[data-link=\"{link}\"]')"
+
+
+def line_of(tab, link, way):
+    return tab.value(f"{chart_of(link)}.querySelector('.way.{way}').getAttribute('d')") or ""
+
+
+def labels_of(tab, link):
+    """What stands at the axes."""
+    return tab.value(f"[...{chart_of(link)}.querySelectorAll('text:not(.limit)')].map(text => text.textContent)")
+
+
+def quit_alarms(tab):
+    """An alarm goes away when it is acknowledged, also from a page that is loaded again; what still holds is counted."""
+    acknowledge(tab, "1 recording")
+    check("one alarm less", wait_for(lambda: len(alarms(tab)) == 2) and tab.value("document.title").startswith("(2) ")
+          and tab.text("known-text") == "1 acknowledged alarm still holds" and tab.text("known-list") == "warning: 1 recording failed")
+    tab.value("window.isOld = true")
+    tab.call("Page.reload")
+    check("it stays away when the page is loaded again", wait_for(lambda: tab.value("!window.isOld") and "The station answers" in tab.text("state"))
+          and len(alarms(tab)) == 2 and tab.text("known-text") == "1 acknowledged alarm still holds")
+    tab.value("document.getElementById('acknowledge-all').click()")
+    check("no alarm any more", alarms(tab) == [] and tab.value("document.title") == "CFDP entity 1" and tab.text("known-text").startswith("3 acknowledged")
+          and tab.value("document.getElementById('no-alarms').offsetHeight > 0 && document.activeElement.id") == "h-alarms")
+
+
 def sift(tab):
     """Tables are sorted by a click on a column, and searched."""
     def lanes():
@@ -206,6 +260,11 @@ def sift(tab):
           and "Nothing here has this text." in tab.value("document.getElementById('parked').parentNode.textContent"))
     enter(tab, "find", "")
     check("no search", lanes() == "0,1,2")
+    enter(tab, "by-words", "VERSION 0.1")
+    check("events are searched", wait_for(lambda: tab.text("shown").startswith("1 of ")) and "start" in tab.text("events"))
+    enter(tab, "by-words", "no such words")
+    check("no event has them", wait_for(lambda: tab.text("shown").startswith("0 of ")) and tab.text("events") == "")
+    enter(tab, "by-words", "")
 
 
 def work(tab):
@@ -216,12 +275,18 @@ def work(tab):
             file.write(b"x" * 1000)
     tab.value("window.confirm = () => true")
     enter(tab, "token", TOKEN, "change")
-    check("buttons", wait_for(lambda: "Hold" in tab.text("remotes") and "Abandon" in tab.text("active")))
+    check("buttons", wait_for(lambda: "Hold" in tab.text("remotes") and "Suspend" in tab.text("active")))
     check("users and entities to choose", tab.value("document.querySelector('#all-users option').value + document.querySelector('#all-remotes option').value") == "ops5")
     tab.value("document.querySelector('#remotes button[aria-label=\"Hold entity 5\"]').click()")
-    check("the link is held", wait_for(lambda: "entity 5 is held since " in tab.text("needs")))
+    check("the link is held", wait_for(lambda: any("entity 5 is held since " in one for one in alarms(tab))))
+    acts(tab)
     give_files(tab, names, "one name")
     check("several files don't get one name", wait_for(lambda: "Several files keep their own names" in tab.text("answer")))
+    for given, letters in (("x" * 256, 256), ("é" * 128, 128), ("d/" * 124 + "/", 249)):
+        give_files(tab, names[:1], given)
+        check(f"a name of {letters} letters is too long", wait_for(lambda: "the name at the receiver is longer than 255 octets" in tab.text("answer"))
+              and tab.value("document.querySelectorAll('#outbox tbody tr').length") == 0)
+        tab.value("answer('')")
     give_files(tab, names, "in/")
     # the third can't be read, and doesn't wait
     check("two files wait", wait_for(lambda: tab.value("document.querySelectorAll('#outbox tbody tr').length") == 2
@@ -239,18 +304,97 @@ def work(tab):
     enter(tab, "by-kind", "put")
     check("one kind alone", wait_for(lambda: tab.text("shown").startswith("2 of ")) and "EOF-Sent" not in tab.text("events"))
     enter(tab, "by-kind", "")
+    alarm = f"warning: {names[2]} left the outbox unsent: read fault (over since "
+    check("a file that wasn't sent is an alarm", any(one.startswith(alarm) for one in alarms(tab)))
     tab.call("Browser.setDownloadBehavior", behavior="allow", downloadPath=folder.name)
     tab.value("document.querySelector('#ended button[aria-label^=\"Script of transaction 1.\"]').click()")
     check("a script is saved", wait_for(lambda: any(name.startswith("1.") and name.endswith(".script") for name in os.listdir(folder.name))))
     for what, to, value, said in (("hold", "all", "", "hold all: ok"), ("release", "7", "600", "release 7 600: ok"), ("rate", "5", "9000", "rate 5 9000: ok"),
-                                  ("rate", "all", "", "rate off: ok"), ("release", "all", "", "release all: ok")):
+                                  ("rate", "all", "", "rate off: ok"), ("rate", "5", "", "rate 5 off: ok"), ("release", "all", "", "release all: ok")):
         tab.value(f"""(form => {{ const field = form.elements; field.what.value = '{what}'; field.to.value = '{to}'; field.value.value = '{value}';
             form.requestSubmit(); }})(document.getElementById('link'))""")
         check(said, wait_for(lambda: tab.text("answer") == said))
+        if said.startswith("rate"):
+            limits(tab, "" if said == "rate 5 off: ok" else "8.8 KiB/s")
         if what == "release":
             check(f"{said}, in the table", wait_for(lambda: ("open until" in tab.text("remotes")) == (value != "")))
     tab.call("Page.reload")
     check("the token stays", wait_for(lambda: "Hold" in tab.text("remotes") and tab.value("document.getElementById('token').value") == TOKEN))
+
+
+def acts(tab):
+    """A transaction has its usual act on a button, and the rest in a menu: what does no harm first, then what ends it, which asks."""
+    more = "document.querySelector('#active button[aria-haspopup]')"
+    what = tab.value(more + ".getAttribute('aria-label')").removeprefix("More for ")
+    check("two buttons", tab.value(more + ".parentNode.textContent") == "Suspend⋯")
+    tab.value(more + ".focus()")
+    tab.enter()
+    check("a menu by key", tab.value("[...document.getElementById('menu').children].map(one => one.textContent || one.tagName)")
+          == ["Report", "Script", "HR", "Cancel ...", "Abandon ..."] and tab.value(more + ".ariaExpanded") == "true")
+    for key, place in (("ArrowDown", "Script"), ("ArrowDown", "Cancel ..."), ("End", "Abandon ..."), ("ArrowDown", "Report"), ("ArrowUp", "Abandon ...")):
+        tab.press(key, {"ArrowDown": 40, "ArrowUp": 38, "End": 35}[key])
+        check(f"{key}: {place}", tab.value("document.activeElement.textContent") == place)
+    tab.press("Escape", 27)
+    check("Escape closes it", tab.value(f"document.activeElement === {more} && {more}.ariaExpanded === 'false'"))
+    tab.asked.clear()
+    tab.value("document.querySelector('#active button[aria-label=\"Suspend " + what + "\"]').click()")
+    check("the usual act doesn't ask", wait_for(lambda: tab.text("answer").startswith("suspend ops 7 ") and tab.text("answer").endswith(": ok")))
+    tab.value(more + ".click()")
+    tab.value("window.confirm = words => { window.asked = words; return false; }; document.querySelector('#menu .danger').click()")
+    check("what ends it asks", tab.value("window.asked") == f"Cancel {what}? The transfer ends at both entities.")
+    tab.value("window.confirm = () => true")
+
+
+def limits(tab, limit):
+    """The limit of a link is in its chart, in its unit."""
+    tab.value("document.getElementById('charts').scrollIntoView()")
+    text = lambda: tab.value(f"{chart_of('5')}.querySelector('text.limit').textContent")
+    check(f"the limit of entity 5: {limit or 'none'}", wait_for(lambda: (text() or "") == (f"limit {limit} ↑" if limit else "")))
+
+
+def lines(tab):
+    """The lines that the palette offers."""
+    return tab.value("[...document.querySelectorAll('#choices code')].map(line => line.textContent)")
+
+
+def command_line(tab):
+    """The command line at the bottom: it completes, asks, gives commands, and goes to places of the page."""
+    value = lambda: tab.value("document.getElementById('line').value")
+    tab.value("document.activeElement.blur()")
+    tab.press("/", text="/")
+    check("/ gets to the command line", tab.value("document.activeElement.id") == "line" and value() == "" and len(lines(tab)) == 13)
+    tab.type("ho")
+    check(f"ho {lines(tab)}", lines(tab)[:3] == ["hold ", "hold 5", "hold 7"] and "hold all" in lines(tab))
+    tab.press("ArrowDown", 40)
+    tab.press("ArrowDown", 40)
+    check("an arrow chooses", tab.value("document.querySelector('#choices [aria-selected=true]').textContent").startswith("hold 5")
+          and tab.value("document.getElementById('line').getAttribute('aria-activedescendant')") == "choice-1")
+    tab.enter()
+    check("Enter takes it", value() == "hold 5" and tab.text("usage") == "hold ENTITY|all: nothing leaves for an entity any more")
+    tab.asked.clear()
+    tab.enter()
+    check(f"and gives it {tab.asked}", wait_for(lambda: tab.text("answer") == "hold 5: ok") and tab.asked == ["hold 5?"] and value() == "")
+    tab.type("rel")
+    tab.press("Tab", 9)
+    check("Tab completes", value() == "release ")
+    tab.type("5")
+    tab.enter()
+    check("release 5, typed", wait_for(lambda: tab.text("answer") == "release 5: ok"))
+    tab.press("ArrowUp", 38)
+    check("the last line again", value() == "release 5")
+    tab.value("startLine('')")
+    tab.type("b7.bin abandon")
+    check(f"words of a line {lines(tab)}", lines(tab) == [] or lines(tab)[0].startswith("abandon ops 7 "))
+    tab.value("startLine('')")
+    tab.type("go refusals")
+    tab.enter()
+    check("a place of the page", tab.value("document.activeElement.id") == "h-refusals")
+    tab.value("startLine('quit')")
+    tab.enter()
+    check("no other command", wait_for(lambda: tab.text("answer") == "quit: the console doesn't take this command"))
+    for line, whole in (("send a 2 5 /x/y.bin b", "send a 2 5 /x/y.bin b as y.bin"), ('send a 2 5 "/x y/z \\"q" b urgent', 'send a 2 5 "/x y/z \\"q" b urgent as "z \\"q"'),
+                        ("send a 2 5 /x/y b as z", "send a 2 5 /x/y b as z"), ("hold 5", "hold 5")):
+        check(f"{line}: the name alone", tab.value(f"withName({json.dumps(line)})") == whole)
 
 
 def type_it(tab):
@@ -260,10 +404,11 @@ def type_it(tab):
         with open(name, "wb") as file:
             file.write(b"x" * 1000)
     field = "document.getElementById('send').elements.{}".format
-    check("Tab gets to the commands", tab.reach("document.querySelector('summary')"))
+    check("Tab gets to the commands", tab.reach("document.querySelector('#give > summary')"))
     tab.enter()
-    check("Enter opens them", tab.value("document.querySelector('details').open"))
-    for name, words in (("user", "ops"), ("to", "5"), ("src", "\n".join(names)), ("dst", "typed/")):
+    check("Enter opens them", tab.value("document.getElementById('give').open"))
+    check("the only user is there", tab.value(field("user") + ".value") == "ops")
+    for name, words in (("to", "5"), ("src", "\n".join(names)), ("dst", "typed/")):
         check(f"Tab gets to the field {name}", tab.reach(field(name)))
         tab.type(words)
         check(f"{name} is typed", tab.value(field(name) + ".value") == words)
@@ -299,6 +444,8 @@ def lines_at(second):
               "octets_out": 10**12 + second * 10**7, "failed_sends": 1_234_567, "heard": moment(90), "silence": 10_000}
     return {"entities": [{"id": 1, "version": "0.1", "started": moment(0), "now": moment(100 + second), "counters": counters}], "logs": [], "recorders": [],
             "users": [{"name": "operations", "waiting": 1_024, "capacity": 1_024}], "transactions": [going, moving, over],
+            "ended": [{"role": "sender", "class": 2, "condition": 0, "count": 5}, {"role": "receiver", "class": 0, "condition": 10, "count": 2}],
+            "delivered": [{"role": "sender", "files": 1, "octets": 700}, {"role": "receiver", "files": 0, "octets": 0}],
             "remotes": [{**remote, "id": 255, "held": True, "held_since": moment(5)}, {**remote, "id": 254, "held": False, "open_until": moment(600)}],
             "outbox": [{"number": 1_234_567, "user": "operations", "class": 2, "destination": 255, "file": "a.bin", "to": "b.bin", "since": moment(9)}],
             "reading": [{"file": "/net/a.bin", "since": moment(9)}],
@@ -322,12 +469,68 @@ def wide(tab):
     for second in range(2):
         tab.value(f"show({json.dumps(lines_at(second))})")
     check("the time left by what is missing", wait_for(lambda: "25 %, 850 MiB missing, 99 s left" in tab.text("active")))
+    check("what is counted", "; the station has counted 7 ends since its start." in tab.text("ended-count")
+          and "receivernot seencheck limit reached2" in tab.text("counts") and tab.text("delivered") == "1 file (700 B) came whole there, 0 files (0 B) came whole here")
     check("what doesn't move has no time left", tab.text("active").count(" left") == 1 and "25 %, 858 MiB missing" in tab.text("active"))
     check("who was heard, by the station", tab.text("remotes").count("10 s ago") == 2)
     check("which PDU was refused", "20 DecodeFault, fault 6, unknown directive of 255.1234567" in tab.text("refusals"))
     for name in TABLES:
         check(f"1280 pixels, with all that is counted: {name} fits", over(tab, name) == 0)
     no_holes(tab)
+    holds(tab)
+    scales(tab)
+    older(tab)
+
+
+def holds(tab):
+    """Planned holds are no alarms: those since the start, at the end of a window, or by an event. Others are, each anew."""
+    moment = lambda second: f"2026-11-26T12:{second // 60:02}:{second % 60:02}.000Z"
+    tab.value("acknowledgeAll([...memory.raised.keys()]); lastId = ''; plannedHolds.clear(); memory.windows.clear()")
+    document = lines_at(3)
+    for name in ("transactions", "storing", "users", "refusals"):
+        document[name] = []
+
+    def after(second, event=None, **link):
+        document["entities"][0]["now"], document["remotes"] = moment(second), [{**lines_at(0)["remotes"][0], "held": False, "held_since": None, **link}]
+        if event:
+            tab.value(f"note({json.dumps(event)})")
+        tab.value(f"show({json.dumps(document)})")
+        return [one for one in alarms(tab) if "is held" in one and "over since" not in one]
+    check("held since the start", after(100, held=True, held_since=moment(0)) == [] and "as planned" in tab.text("remotes"))
+    check("an open window, and its end", after(110, open_until=moment(120)) == [] and after(121, held=True, held_since=moment(120)) == [])
+    check("held before the end of a window", after(130, open_until=moment(140)) == [] and len(after(133, held=True, held_since=moment(132))) == 1)
+    check("held as an event says", after(150) == [] and after(160, {"kind": "hold", "id": 255, "planned": True, "at": moment(160)}, held=True, held_since=moment(160)) == [])
+    check("held by somebody", after(170) == [] and after(181, held=True, held_since=moment(180)) == ["warning: entity 255 is held since 2026-11-26 12:03:00Z"])
+    tab.value("acknowledgeAll([...memory.raised.keys()])")
+    check("acknowledged", after(182, held=True, held_since=moment(180)) == [])
+    check("held anew", after(190) == [] and len(after(192, held=True, held_since=moment(191))) == 1)
+    check("what is over stays", after(200) == [] and any("is held since 2026-11-26 12:03:11Z (over since" in one for one in alarms(tab)))
+
+
+# What stands at an axis up to such a value.
+AXES = [(4, ["0 B/s", "1 B/s", "2 B/s", "3 B/s", "4 B/s"]), (5, ["0 B/s", "2 B/s", "4 B/s", "6 B/s"]), (999, ["0 B/s", "500 B/s", "1000 B/s"]),
+        (9_000, ["0 KiB/s", "5 KiB/s", "10 KiB/s"]), (3 * 1024**2, ["0 MiB/s", "1 MiB/s", "2 MiB/s", "3 MiB/s"])]
+
+
+def scales(tab):
+    for most, labels in AXES:
+        check(f"an axis up to {most}", tab.value(f"axis({most}).labels") == labels and tab.value(f"axis({most}).top") >= most)
+
+
+def older(tab):
+    """Transactions of which no lane knows any more are shown as the events told of them."""
+    events = [{"kind": "put", "user": "ops", "source": 1, "seq": 7, "peer": 5, "class": 2, "file": "<b>old</b>", "to": "old.bin", "size": 2048},
+              {"kind": "indication", "user": "ops", "source": 1, "seq": 7, "name": "Transaction-Finished", "condition": 0, "delivery": "complete", "status": "retained"},
+              {"kind": "indication", "user": "ops", "source": 9, "seq": 8, "name": "Metadata-Recv", "origin": 9, "size": 10, "file": "in.bin", "to": "in.bin", "messages": []},
+              {"kind": "indication", "user": "ops", "source": 9, "seq": 8, "name": "Abandoned", "condition": 8, "progress": 5},
+              {"kind": "indication", "user": "ops", "source": 9, "seq": 9, "name": "Metadata-Recv", "origin": 9, "size": 10, "file": "on.bin", "to": "on.bin", "messages": []}]
+    text = "".join(f"id: a-{number}\ndata: {json.dumps({'at': f'2026-11-26T11:00:0{number}.000Z', 'number': number, **event})}\n\n" for number, event in enumerate(events))
+    tab.value(f"past.clear(); lastId = ''; take({json.dumps(text)}); show({json.dumps(lines_at(4))})")
+    rows = tab.value("[...document.querySelectorAll('#ended tbody tr')].map(row => row.row.item).map(t => [key(t), direction(t), t.user, names(t), ending(t)[0], moment(t.last), !t.isPast])")
+    check(f"older transactions {rows}", [row[0] for row in rows] == ["255.1234569", "9.8", "1.7"] and rows[1:] == [
+        ["9.8", "← from 9", "ops", "in.bin → in.bin", "✗ abandoned: inactivity detected", "2026-11-26 11:00:03Z", False],
+        ["1.7", "→ to 5", "ops", "<b>old</b> → old.bin", "✓ complete, retained", "2026-11-26 11:00:01Z", False]])
+    check("how many are older", tab.text("ended-count").startswith("1 as the lanes have them, 2 older by events; "))
 
 
 def no_holes(tab):
@@ -350,9 +553,9 @@ def goes(tab, station):
     wide(tab)
     os.unlink(control)
     start(sys.executable, os.path.join(here, "fake_station.py"), control, "--transactions", "1000")
-    check("the station is back", wait_for(lambda: "The station answers" in tab.text("state")))
+    check("the station is back", wait_for(lambda: "The station answers" in tab.text("state")) or print(tab.text("state")))
     check("no datagram waits", wait_for(lambda: tab.value("document.getElementById('s-parked').classList.contains('hidden')") is True))
-    check("a thousand transactions", wait_for(lambda: tab.value("document.querySelectorAll('#active tbody tr, #ended tbody tr').length") == 1000))
+    check("a thousand transactions", wait_for(lambda: tab.value("[...document.querySelectorAll('#active tbody tr, #ended tbody tr')].filter(tr => !tr.row.item.isPast).length") == 1000))
     pauses = tab.call("Runtime.evaluate", awaitPromise=True, returnByValue=True, expression="""new Promise(done => {
         const box = document.getElementById('active').parentNode; let before = performance.now(), pauses = [], turns = 0;
         const turn = now => { pauses.push(now - before); before = now; box.scrollTop += 40;
@@ -364,19 +567,18 @@ def goes(tab, station):
 
 
 def counted(tab):
-    """What a real station counts and explains, and what the page shows of one that does neither."""
-    for name, options in (("counts", ("--counters", "--explain")), ("plain", ())):
-        os.makedirs(os.path.join(folder.name, name))
-        os.chdir(os.path.join(folder.name, name))
-        with real_station(server, options=options, limit=100) as (one, peer):
-            one.client().close()
-            port = free_port()
-            start(web, "--control", one.path, "--listen", f"127.0.0.1:{port}")
-            check(f"{name}: the console", wait_for(lambda: b"cfdp_up 1" in get(port, "/metrics")))
-            tab.call("Page.navigate", url=f"http://127.0.0.1:{port}/")
-            check(f"{name}: nobody was heard", wait_for(lambda: heard(tab) == "not since the start"))
-            lose(tab, name, lambda datagram: peer.sendto(datagram, ("127.0.0.1", one.port)), bool(options))
-        os.chdir("/")
+    """What a real station counts and explains."""
+    os.makedirs(os.path.join(folder.name, "counts"))
+    os.chdir(os.path.join(folder.name, "counts"))
+    with real_station(server, limit=100) as (one, peer):
+        one.client().close()
+        port = free_port()
+        start(web, "--control", one.path, "--listen", f"127.0.0.1:{port}")
+        check("counts: the console", wait_for(lambda: b"cfdp_up 1" in get(port, "/metrics")))
+        tab.call("Page.navigate", url=f"http://127.0.0.1:{port}/")
+        check("counts: nobody was heard", wait_for(lambda: heard(tab) == "not since the start"))
+        lose(tab, "counts", lambda datagram: peer.sendto(datagram, ("127.0.0.1", one.port)), True)
+    os.chdir("/")
     no_faults(tab)
 
 
@@ -398,7 +600,7 @@ def by_hand(tab):
         give(file_data(1, 0, b"x" * 1_000))
         ages(tab, lambda: give(file_data(1, 0, b"x" * 1_000)))
         leave(tab)
-        urgent(tab, operator)
+        urgent(tab, operator, peer)
         operator.close()
     os.chdir("/")
     no_faults(tab)
@@ -423,25 +625,31 @@ def ages(tab, give):
 
 def leave(tab):
     tab.asked.clear()
-    tab.value("document.querySelector('#active button[aria-label^=\"Abandon transaction 2.\"]').click()")
-    check("by hand: abandon 2.1", wait_for(lambda: tab.text("answer") == "abandon alice 2 1: ok") and tab.asked == ["Abandon transaction 2.1?"])
+    tab.value("document.querySelector('#active button[aria-label=\"More for transaction 2.1\"]').click()")
+    tab.value("[...document.querySelectorAll('#menu .danger')].find(button => button.textContent === 'Abandon ...').click()")
+    check("by hand: abandon 2.1", wait_for(lambda: tab.text("answer") == "abandon alice 2 1: ok")
+          and tab.asked == ["Abandon transaction 2.1? It ends here at once, and the other entity isn't told."])
     check("by hand: it is abandoned", wait_for(lambda: "✗ abandoned" in cell(tab, "ended", "How it ended")
                                               and cell(tab, "ended", "Transaction") == "2.1" and cell(tab, "active", "Transaction") == ""))
 
 
-def urgent(tab, operator):
-    """Two files wait while the link is held. The urgent one was sent last, and goes first."""
+def urgent(tab, operator, peer):
+    """Two files wait while the link is held. The urgent one was sent last, and goes first. The receiver learns no folder of theirs."""
     for number, (name, is_urgent) in enumerate((("calm", "false"), ("urgent", "true")), 1):
         with open(name, "wb") as file:
             file.write(b"x" * 1_000)
         tab.value(f"""(form => {{ const field = form.elements; field.user.value = 'alice'; field.to.value = '2'; field.src.value = '{os.path.abspath(name)}';
             field.urgent.checked = {is_urgent}; form.requestSubmit(); }})(document.getElementById('send'))""")
         check(f"by hand: {name}, queued {number}", wait_for(lambda: tab.text("answer").endswith(f"{name}: queued {number}")))
+    peer.settimeout(1)
     operator.ask("follow 1000")
     operator.ask("release 2")
     puts = lambda: [event["file"] for event in operator.events if event["kind"] == "put"]
     check("by hand: both go", wait_for(lambda: operator.ask("status") and len(puts()) == 2))
     check(f"by hand: the urgent one first {puts()}", [os.path.basename(file) for file in puts()] == ["urgent", "calm"])
+    came, named = [], lambda name: any(bytes([len(name), *name, len(name), *name]) in one for one in came)
+    check("by hand: the names alone come", wait_for(lambda: came.append(peer.recv(65_536)) or named(b"urgent") and named(b"calm"))
+          and not any(os.path.basename(folder.name).encode() in one for one in came))
 
 
 def seconds_ago(tab):
@@ -456,7 +664,7 @@ def heard(tab):
 
 def heights_of(tab):
     """The heights of the chart's line for what comes in, each once."""
-    return set(re.findall("[ML][0-9.]+ ([0-9.]+)", tab.value("document.getElementById('chart-in').getAttribute('d')") or ""))
+    return set(re.findall("[ML][0-9.]+ ([0-9.]+)", line_of(tab, "all", "in")))
 
 
 def rate_in(text):
@@ -473,12 +681,13 @@ def lose(tab, name, give, is_counted):
         give(datagram)
     share = "50 %, 49 KiB missing" if is_counted else "99 %, 1000 B missing"
     check(f"{name}: {share}", wait_for(lambda: share in tab.text("active")))
+    tab.value("document.getElementById('charts').scrollIntoView()")
     shown, rates = [], {"reception": [], "link": [], "chart": []}
     for piece in pieces[1:-1:2]:
         give(piece)
         time.sleep(0.15)
         shown.append(tab.text("active"))
-        for what, text in (("reception", cell(tab, "active", "Rate")), ("link", cell(tab, "remotes", "Rate in")), ("chart", tab.text("chart-text"))):
+        for what, text in (("reception", cell(tab, "active", "Rate")), ("link", cell(tab, "remotes", "Rate in")), ("chart", tab.value(chart_of("all") + ".firstChild.textContent") or "")):
             rates[what].append(rate_in(text))
     shares = [int(found.group(1)) for found in (re.search(r"([0-9]+) %", text) for text in shown) if found]
     # Of the first looks the page may still show the pieces before the losses.
@@ -520,7 +729,7 @@ def quiet(tab, name, is_counted):
 
 def no_faults(tab):
     faults = [fault for fault in tab.faults
-              if fault.get("entry", {}).get("level", "error") in ("error", "warning") and "503" not in json.dumps(fault)]
+              if fault.get("entry", {}).get("level", "error") in ("error", "warning") and not any(status in json.dumps(fault) for status in ("503", "400 (Bad Request)"))]
     check(f"no fault and no breach of the policy {faults or ''}", not faults)
 
 
@@ -548,8 +757,10 @@ def main():
     for domain in ("Page", "Runtime", "Log"):
         tab.call(domain + ".enable")
     look(tab, port)
+    quit_alarms(tab)
     sift(tab)
     work(tab)
+    command_line(tab)
     type_it(tab)
     goes(tab, station)
     counted(tab)
@@ -559,17 +770,17 @@ def main():
 
 
 def take_picture(tab):
-    """The whole page, as an operator has it: files come, a link is held for which a file waits, one file can't be stored, commands can be
-    given."""
+    """The page as an operator has it: files come, a link is held for which a file waits, one file can't be stored, commands can be
+    given. The whole page at a desk, what a phone shows of it, and a dark one with the command line."""
     os.chdir(folder.name)
     with open("plan.bin", "wb") as file:
         file.write(b"x" * 1000)
     station = os.path.join(folder.name, "pictured")
-    start(sys.executable, os.path.join(here, "fake_station.py"), station, "--transactions", "5", "--pace", "9000", "--storing", "2",
-          "--recorded", "7,0,0", "--counters")
+    start(sys.executable, os.path.join(here, "fake_station.py"), station, "--transactions", "5", "--pace", "5000", "--storing", "2",
+          "--recorded", "7,0,0", "--counters", "--traffic", "6000")
     wait_for(lambda: os.path.exists(station))
     operator = Client(station)
-    for line in ("hold 7", "release 5 600", "send ops 2 7 plan.bin in/plan.bin"):
+    for line in ("release 5 600", "send ops 2 5 plan.bin plan.bin", "hold 7", "send ops 2 7 plan.bin in/plan.bin"):
         operator.ask(line)
     port = free_port()
     start(web, "--control", station, "--listen", f"127.0.0.1:{port}", "--commands", "--token-file", os.path.join(folder.name, "token"))
@@ -577,13 +788,26 @@ def take_picture(tab):
     tab.call("Page.navigate", url=f"http://127.0.0.1:{port}/")
     wait_for(lambda: "file 4.bin" in tab.text("active"))
     enter(tab, "token", TOKEN, "change")
-    tab.value("document.querySelector('details').open = true")
-    check("the picture has a file that waits, and buttons", wait_for(lambda: "plan.bin" in tab.text("outbox") and "Abandon" in tab.text("active")))
+    tab.value("command('rate 5 6000')")
+    tab.value("document.getElementById('give').open = true")
+    check("the picture has a file that waits, and buttons", wait_for(lambda: "plan.bin" in tab.text("outbox") and "Suspend" in tab.text("active")))
     size(tab, 1600, 900)
-    time.sleep(5)
+    tab.value("document.getElementById('charts').scrollIntoView()")
+    time.sleep(45)
+    tab.value("scrollTo(0, 0); answer('')")
     size(tab, 1600, tab.value("document.documentElement.scrollHeight"))
-    time.sleep(1)
-    with open(picture, "wb") as file:
+    shoot(tab, picture)
+    size(tab, 390, 1600)
+    shoot(tab, picture.replace(".png", "-phone.png"))
+    size(tab, 1600, 900)
+    tab.call("Emulation.setEmulatedMedia", features=[{"name": "prefers-color-scheme", "value": "dark"}])
+    tab.value("startLine('7.')")
+    shoot(tab, picture.replace(".png", "-dark.png"))
+
+
+def shoot(tab, path):
+    time.sleep(1.5)
+    with open(path, "wb") as file:
         file.write(base64.b64decode(tab.call("Page.captureScreenshot", format="png")["data"]))
 
 

@@ -42,9 +42,15 @@ class Console:
             connection.close()
 
     def document(self):
-        status, body = self.ask("GET", "/status.json")
-        want(status, 200)
-        return json.loads(body)
+        answers = []
+
+        def is_there():
+            # a station on a busy machine may not answer the console in time
+            answers.append(self.ask("GET", "/status.json"))
+            return answers[-1][0] == 200
+
+        until(is_there, "a document")
+        return json.loads(answers[-1][1])
 
     def command(self, line):
         """What the station answers to a command."""
@@ -77,6 +83,8 @@ def check_status(console, client):
     def is_alike():
         lines = client.status()
         document = console.document()
+        for line in (*document["remotes"], *lines):
+            line.pop("silence", None)
         return {name: document[name] for name in names} == {name: [line for line in lines if line["kind"] == KINDS[name]] for name in names} and \
             set(document["entities"][0]) == set(lines[0])
 
@@ -110,7 +118,7 @@ def give_up(console, two, file):
         want(console.command(f"send alice 2 2 {file} {name}")[0].split()[0], "queued")
     until(lambda: {"c", "d"} <= {line.get("to") for line in console.document()["transactions"] if line["state"] == "active"}, "two transactions")
     first, other = (next(line for line in console.document()["transactions"] if line.get("to") == name) for name in ("c", "d"))
-    until(lambda: seen(console, first["seq"])["events"] > first["events"], "timers that count", 20)
+    until(lambda: seen(console, first["seq"])["events"] > first["events"], "timers that count")
     names = [f"alice {line['source']} {line['seq']}" for line in (first, other)]
     want(console.command(f"suspend {names[0]}"), ["ok"])
     until(lambda: seen(console, first["seq"])["state"] == "suspended", "a transaction at rest")
@@ -139,8 +147,9 @@ def work(console, one, two):
     check_status(console, client)
     [ended] = [line for line in console.document()["transactions"] if line.get("status") == "retained"]
     until(lambda: {"put", "hold", "release", "unsent"} <= {event["kind"] for event in console.events()}, "the events")
-    finished = [event for event in console.events() if event.get("name") == "Transaction-Finished"]
-    want([(event["seq"], event["delivery"]) for event in finished], [(ended["seq"], "complete")])
+    finished = lambda: [event for event in console.events() if event.get("name") == "Transaction-Finished"]
+    until(finished, "the event of the end")
+    want([(event["seq"], event["delivery"]) for event in finished()], [(ended["seq"], "complete")])
     script = console.command(f"journal 1 {ended['seq']}")
     want((script[0].startswith("# "), any(line.startswith("put ") for line in script)), (True, True))
     want(console.ask("POST", "/command", "nonsense", **{"X-Console-Token": TOKEN})[0], 400)
@@ -149,8 +158,12 @@ def work(console, one, two):
     want([line for line in ("cfdp_up 1", 'cfdp_remote_held{remote="2"} 0', 'cfdp_transactions{state="ended"} 1') if line not in metrics], [])
     check_members(console)
     check_watching(client)
+    pathlib.Path("big").mkdir()
+    pathlib.Path("big/file").write_bytes(bytes(600_000))
+    want(console.command(f"send alice 2 2 {os.path.abspath('big/file')} big as file")[0].split()[0], "queued")
+    check_history(two)
     give_up(console, two, file)
-    want((client.ask("quit"), one.run.wait(15)), (["ok"], 0))
+    want((client.ask("quit"), one.run.wait(60)), (["ok"], 0))
     until(lambda: console.ask("GET", "/healthz")[0] == 503, "the console to miss the station")
 
 
@@ -167,12 +180,27 @@ def check_watching(client):
         console.close()
 
 
+def check_history(two):
+    """A console that is opened after a file with more pieces than it keeps has the file's begin and end, and the name alone."""
+    client = two.client()
+    until(lambda: any(line.get("status") == "retained" and line.get("to") == "big" for line in client.status()), "a large file")
+    client.close()
+    console = Console(two.path)
+    try:
+        named = lambda name: [event for event in console.events() if event.get("name") == name]
+        until(lambda: [event["file"] for event in named("Metadata-Recv") if event["to"] == "big"] == ["file"], "the begin of a large file")
+        until(lambda: len(named("File-Segment-Recv")) > 1000, "the last pieces")
+        want([event["delivery"] for event in named("Transaction-Finished")][-1:], ["complete"])
+    finally:
+        console.close()
+
+
 def main():
     ports = [free_port(), free_port()]
     with tempfile.TemporaryDirectory() as home:
         os.chdir(home)
         # files to a peer that has gone stay under way for a minute
-        one = Station(SERVER, 1, ports[0], 2, ports[1], ("--log", "log", "--status-socket", "watched"), limit=200)
+        one = Station(SERVER, 1, ports[0], 2, ports[1], ("log.file = 'log'", "control.status_socket = 'watched'"), limit=200)
         two = Station(SERVER, 2, ports[1], 1, ports[0])
         console = None
         try:

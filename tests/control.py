@@ -19,7 +19,7 @@ import time
 
 from support import (
     EOF, FILE_DATA, METADATA, Client, Running, Wrong, case, configuration, fill, free_port, in_own_mounts, run_cases,
-    small_disk, until, want,
+    small_disk, station_text, until, want,
 )
 
 SERVER = os.path.abspath(sys.argv[1])
@@ -31,11 +31,11 @@ class Server(Running):
         self.port = port or free_port()
         os.makedirs("received", exist_ok=True)
         self.peer = free_port()
-        config = f"config{self.port}"
-        pathlib.Path(config).write_text(configuration(f"127.0.0.1:{self.peer}", ("alice", "bob")))
+        file = f"station{self.port}.toml"
+        text = configuration(f"127.0.0.1:{self.peer}", ("alice", "bob"))
+        pathlib.Path(file).write_text(station_text(text, f"127.0.0.1:{self.port}", "received", path, options))
         self.socket = socket.socket(socket.AF_INET, socket.SOCK_DGRAM)
-        words = [SERVER, "--config", config, "--bind", f"127.0.0.1:{self.port}", "--folder", "received", *options]
-        super().__init__(words, path, start_new_session=True)
+        super().__init__(SERVER, file, path, start_new_session=True)
 
     def clients_sit(self):
         """How many clients have a seat, this one included; all seats if there is none for this one."""
@@ -50,10 +50,15 @@ class Server(Running):
 
     def ended(self):
         try:
-            status = self.run.wait(30)
+            status = self.run.wait(90)
         except subprocess.TimeoutExpired:
-            raise Wrong("it did not end within 30 seconds") from None
+            raise Wrong("it did not end within 90 seconds") from None
         return status, self.run.stdout.read().decode() + self.run.stderr.read().decode()
+
+    def refuses(self):
+        """The status and the first line of a server that can't start."""
+        status, text = self.ended()
+        return status, text.splitlines()[0]
 
     def quits(self):
         client = self.client()
@@ -124,6 +129,8 @@ def refusals():
         one.send(b"\x24\0", b"\x24\0", METADATA[:4] + b"\x09" + METADATA[5:])
         client.wait_event(lambda event: event.get("name") == "NoRoute", "the refusal of a source")
         want(client.ask("cancel alice 1 9"), ["refused 1 NoTransaction"])
+        # the other worker may still read one of the other two
+        until(lambda: client.status()[0]["counters"]["refused"] == 4, "all refusals")
         status = client.status()
         refused = {(line["name"], line.get("fault")): line for line in status if line["kind"] == "refusal"}
         want(sorted(name for name, _ in refused), ["DecodeFault", "NoRoute", "NoTransaction"])
@@ -137,12 +144,12 @@ def refusals():
 
 @case
 def refused_pdus():
-    """With --explain the status says which PDU a refused datagram was, or that it was none; a command names none."""
-    with server(options=("--explain",)) as one:
+    """The status says which PDU a refused datagram was, or that it was none; a command names none."""
+    with server(options=()) as one:
         client = one.client()
         want(client.ask("follow"), ["ok"])
         one.send(b"\x24\0", METADATA[:4] + b"\x09" + METADATA[5:], METADATA[:6] + b"\x09" + METADATA[7:])
-        for name in ("NoRoute", "NotForUs"):
+        for name in ("DecodeFault", "NoRoute", "NotForUs"):
             client.wait_event(lambda event, name=name: event.get("name") == name, name)
         want(client.ask("cancel alice 1 9"), ["refused 1 NoTransaction"])
         pdus = {line["name"]: (line.get("pdu"), line.get("source"), line.get("seq")) for line in client.status() if line["kind"] == "refusal"}
@@ -193,6 +200,19 @@ def paths_that_are_no_files():
         one.quits()
 
 
+def watching():
+    """A client of the status socket, which may have its path before it lets anybody in."""
+    found = []
+
+    def comes_in():
+        with contextlib.suppress(OSError):
+            found.append(Client("watched"))
+        return found
+
+    until(comes_in, "the status socket")
+    return found[0]
+
+
 class Spare(Client):
     """A client that comes while all seats are taken."""
 
@@ -223,7 +243,7 @@ def silent_client():
     for _ in range(20):
         begun = time.monotonic()
         client = Client()
-        if not select.select([client.stream], [], [], 0.5)[0]:
+        if not select.select([client.stream], [], [], 2)[0]:
             return client, begun
         client.close()
     raise Wrong("the spare seat was never free")
@@ -235,7 +255,7 @@ def many_clients():
     with server() as one:
         one.client().close()
         clients = []
-        end = time.monotonic() + 20
+        end = time.monotonic() + 60
         while len(clients) < SEATS and time.monotonic() < end:
             client = one.client()
             answer = client.ask(f"trace 1 {len(clients)}")
@@ -285,16 +305,15 @@ def a_status_socket():
     """A client of the status socket sees what there is to see, and changes nothing: any other line is refused, isn't reported, and reads no
     file."""
     os.mkfifo("endless")
-    with server(options=("--status-socket", "watched", "--control-mode", "0660", "--log-commands")) as one:
+    with server(options=("control.status_socket = 'watched'", "control.mode = '0660'")) as one:
         client = one.client()
-        until(lambda: os.path.exists("watched"), "the status socket")
-        watcher = Client("watched")
+        watcher = watching()
         want([stat.S_IMODE(os.stat(path).st_mode) for path in ("control", "watched")], [0o660, 0o660])
         one.send(METADATA, FILE_DATA, EOF)
         until(lambda: os.path.exists("received/b"), "the file")
         want((client.ask("hold 1"), client.ask("send alice 1 1 gone b")), (["ok"], ["queued 1"]))
         kinds = lambda asker: [line["kind"] for line in asker.status()]
-        want(kinds(watcher), kinds(client))
+        until(lambda: kinds(watcher) == kinds(client), "one status for both")
         want([json.loads(line)["file"] for line in watcher.ask("outbox")], ["gone"])
         want(watcher.ask("journal 1 5")[0][:1], "#")
         want(watcher.ask("journal 1 9"), ["refused 1 NoTransaction"])
@@ -317,11 +336,10 @@ def a_status_socket():
 @case
 def seats_of_watchers():
     """Four watchers take no seat of the control socket, a fifth one is told so, and clients of the control socket take none of theirs."""
-    with server(options=("--status-socket", "watched")) as one:
+    with server(options=("control.status_socket = 'watched'",)) as one:
         one.client().close()
         until(lambda: one.clients_sit() == 1, "the end of the visit")
-        until(lambda: os.path.exists("watched"), "the status socket")
-        watchers = [Client("watched") for _ in range(4)]
+        watchers = [watching() for _ in range(4)]
         for watcher in watchers:
             want(watcher.status()[0]["kind"], "entity")
         fifth = Client("watched")
@@ -455,7 +473,7 @@ def stale_and_live_sockets():
     with server() as one:
         client = one.client()
         with server() as second:
-            want(second.ended(), (1, "cfdp_server: bind fault\n"))
+            want(second.refuses(), (1, "cfdp_server: bind fault"))
         want(client.ask("trace 1 9"), ["refused 1 NoTransaction"])
         one.run.kill()
         one.run.wait()
@@ -475,7 +493,7 @@ def longest_path():
     with server(path=longest) as one:
         one.quits()
     with server(path=f"{longest}c") as one:
-        want(one.ended(), (1, "cfdp_server: bind fault\n"))
+        want(one.refuses(), (1, "cfdp_server: bind fault"))
     want([name for name in os.listdir() if name.startswith("c" * 9)], [])
 
 
@@ -492,7 +510,7 @@ def two_starts_at_once():
             [serving] = [one for one in starting if one.run.poll() is None]
             for one in starting:
                 if one is not serving:
-                    want(one.ended(), (1, "cfdp_server: bind fault\n"))
+                    want(one.refuses(), (1, "cfdp_server: bind fault"))
             want(serving.client().ask("trace 1 9"), ["refused 1 NoTransaction"])
             want(sorted(name for name in os.listdir() if name.startswith("control")), ["control"])
             serving.quits()
@@ -500,8 +518,8 @@ def two_starts_at_once():
 
 @case
 def sources_that_are_not_known():
-    """With --known-sources, datagrams from other sources are counted and not read."""
-    with server(options=("--known-sources",)) as one:
+    """With known sources alone, datagrams from other sources are counted and not read."""
+    with server(options=("station.sources = 'known'",)) as one:
         client = one.client()
         want(client.ask("follow"), ["ok"])
         one.send(METADATA)
@@ -522,16 +540,16 @@ def sources_that_are_not_known():
 def a_path_that_is_no_socket():
     pathlib.Path("control").write_text("kept")
     with server() as one:
-        want(one.ended(), (1, "cfdp_server: bind fault\n"))
+        want(one.refuses(), (1, "cfdp_server: bind fault"))
     want(pathlib.Path("control").read_text(), "kept")
     with server(path="nowhere/control") as one:
-        want(one.ended(), (1, "cfdp_server: bind fault\n"))
+        want(one.refuses(), (1, "cfdp_server: bind fault"))
 
 
 @case
 def a_log():
     """Each event is in the file once, in order, over the runs of two servers."""
-    with server(options=("--log", "log")) as one:
+    with server(options=("log.file = 'log'", "log.commands = false")) as one:
         client = one.client()
         want(client.ask("follow"), ["ok"])
         one.send(METADATA, FILE_DATA, EOF)
@@ -542,7 +560,7 @@ def a_log():
     first = [json.loads(line) for line in open("log", encoding="utf-8")]
     want((first[0]["kind"], first[-1]["kind"]), ("start", "end"))
     want([event["number"] for event in first], list(range(1, len(first) + 1)))
-    with server(options=("--log", "log")) as one:
+    with server(options=("log.file = 'log'", "log.commands = false")) as one:
         one.client()
         one.quits()
     want([json.loads(line)["kind"] for line in open("log", encoding="utf-8")][len(first):], ["start", "end"])
@@ -553,7 +571,7 @@ def a_log_on_a_full_disk():
     """The server keeps running, reports that the log fails, and continues it once there is room."""
     with small_disk("logs", "size=16k"):
         fill("logs/full")
-        with server(options=("--log", "logs/log")) as one:
+        with server(options=("log.file = 'logs/log'",)) as one:
             client = one.client()
 
             def log():
@@ -597,7 +615,7 @@ def a_status_of_standard_input():
     pathlib.Path("config").write_text(configuration(f"127.0.0.1:{free_port()}", ("alice", "bob")))
     run = subprocess.run(
         [SERVER, "--config", "config", "--bind", f"127.0.0.1:{free_port()}", "--folder", "received"],
-        input=b"status\nfollow\nquit\n", capture_output=True, timeout=30, check=False,
+        input=b"status\nfollow\nquit\n", capture_output=True, timeout=90, check=False,
     )
     lines = run.stdout.decode().splitlines()
     want((run.returncode, lines[-1]), (0, "bad command"))

@@ -1,5 +1,5 @@
 #!/usr/bin/env python3
-"""What a server counts with --counters, to the last one: ends, whole files, missing octets, when it heard its peers; in its status, in the
+"""What a station counts, to the last one: ends, whole files, missing octets, when it heard its peers; in its status, in the
 tables of cfdp_ctl, and in the numbers of cfdp_web.
 
 usage: tests/counts.py SERVER CTL WEB
@@ -20,6 +20,7 @@ import time
 from support import Station, configuration, end_of_file, file_data, free_port, metadata, pair, pdu, run_cases, station, until, want
 
 SERVER, CTL, WEB = (os.path.abspath(path) for path in sys.argv[1:4])
+MONITORING = pathlib.Path(__file__).resolve().parent.parent / "examples" / "monitoring"
 CASES = []
 COUNTS = {"ended", "delivered", "store"}
 
@@ -50,7 +51,7 @@ def missing(client):
 
 
 def metrics_of(control):
-    """The numbers of the console, by their names and labels, and its document."""
+    """The numbers of the console, by their names and labels, its document, and the names of all families."""
     port = free_port()
     console = subprocess.Popen([WEB, "--control", control, "--listen", f"127.0.0.1:{port}"], stdout=subprocess.DEVNULL, stderr=subprocess.DEVNULL)
     try:
@@ -66,11 +67,13 @@ def metrics_of(control):
                     connection.close()
             except OSError:
                 answers.clear()
-            return len(answers) == 2
+            if [status for status, _ in answers] != [200, 200] or "cfdp_up 1\n" not in answers[0][1]:
+                answers.clear()
+            return answers
         until(ask, "the console")
-        want([status for status, _ in answers], [200, 200])
-        numbers = dict(line.rsplit(" ", 1) for line in answers[0][1].splitlines() if not line.startswith("#"))
-        return numbers, json.loads(answers[1][1])
+        text = answers[0][1]
+        numbers = dict(line.rsplit(" ", 1) for line in text.splitlines() if not line.startswith("#"))
+        return numbers, json.loads(answers[1][1]), set(re.findall(r"^# TYPE (\S+)", text, re.MULTILINE))
     finally:
         console.kill()
         console.wait()
@@ -82,7 +85,7 @@ NUMBERS = re.compile(r"cfdp_(ended_transactions|delivered|missing|remote_silence
 @case
 def a_receiver_with_lost_segments():
     """A whole file, one that is cancelled, and one of which segments are missing: each is counted, an octet that comes twice once."""
-    with station(SERVER, options=("--counters",), limit=100) as (one, peer):
+    with station(SERVER, options=(), limit=100) as (one, peer):
         client = one.client()
         want((ends(client), delivered(client), lines_of(client, "store")), ({}, {"sender": (0, 0), "receiver": (0, 0)}, []))
         want([("heard" in line, "silence" in line) for line in lines_of(client, "remote")], [(False, False)])
@@ -119,7 +122,7 @@ def a_receiver_with_lost_segments():
         after = lines_of(client, "remote")[0]
         want((after["heard"], after["silence"] - before["silence"] >= 1_000), (before["heard"], True))
 
-        numbers, document = metrics_of(one.path)
+        numbers, document, _ = metrics_of(one.path)
         lane = next(line["lane"] for line in lines_of(client, "transaction") if line["seq"] == 2)
         want({name: number for name, number in numbers.items() if name.startswith(("cfdp_ended_transactions", "cfdp_delivered", "cfdp_missing"))}, {
             'cfdp_ended_transactions_total{role="receiver",class="1",condition="0"}': "1",
@@ -142,7 +145,7 @@ def a_receiver_with_lost_segments():
 @case
 def both_ends_of_two_stations():
     """What one station sends and the other receives, in both classes, with many files in the same lanes."""
-    with pair(SERVER, (("--counters",), ("--counters",))) as (one, two, _):
+    with pair(SERVER, ((), ())) as (one, two, _):
         clients = one.client(), two.client()
         pathlib.Path("file").write_bytes(bytes(3_000))
         for number in range(40):
@@ -171,7 +174,7 @@ def both_ends_of_two_stations():
 @case
 def a_burst_of_ends_in_one_lane():
     """A hundred receptions that one lane ends while the server answers other questions: each is counted, whether its class was seen or not."""
-    with station(SERVER, options=("--counters",), recv_lanes=1, workers=1) as (one, peer):
+    with station(SERVER, options=(), recv_lanes=1, workers=1) as (one, peer):
         client = one.client()
         client.stream.sendall(b"status\n" * 20)
         for number in range(1, 101):
@@ -187,7 +190,7 @@ def a_burst_of_ends_in_one_lane():
 def numbers_that_are_used_up():
     """A transaction that only uses up a number isn't counted."""
     users = ["alice", *(f"user{number}" for number in range(1, 8))]
-    with station(SERVER, options=("--counters", "--lanes", "2=2"), lanes=1, users=users) as (one, _):
+    with station(SERVER, options=("remote[2].lanes = 2",), lanes=1, users=users) as (one, _):
         client = one.client()
         want(client.ask("follow"), ["ok"])
         pathlib.Path("file").write_bytes(b"abc")
@@ -210,7 +213,7 @@ def an_entity_that_speaks_for_another():
         text = configuration(f"127.0.0.1:{ports[0]}", ("alice",), 300, 10, id=1, remote=2, octets=4, lanes=4)
         other = text[text.index("[[remote]]"):].replace("id = 2", "id = 3").replace(str(ports[0]), str(ports[1]))
         port = free_port()
-        one = Station(SERVER, 1, port, 2, 0, ("--strict-sources", "--counters"), text=text + other, workers=1)
+        one = Station(SERVER, 1, port, 2, 0, ("station.sources = 'own'",), text=text + other, workers=1)
         try:
             client = one.client()
             heard = lambda: [line["id"] for line in lines_of(client, "remote") if "heard" in line]
@@ -226,31 +229,31 @@ def an_entity_that_speaks_for_another():
 
 
 @case
-def bundles_are_not_taken_by_commands():
-    """Without a control socket the server takes its users' bundles itself, so that it can count them."""
+def an_entity_by_options_counts_nothing():
+    """Its commands take what its users receive."""
     pathlib.Path("config").write_text(configuration("127.0.0.1:1", octets=4))
     words = [SERVER, "--config", "config", "--bind", "127.0.0.1:0", "--folder", "."]
-    for options, taken in (([], "none"), (["--counters"], "refused TakenByEvents")):
-        done = subprocess.run([*words, *options], input="take alice\nstatus\nquit\n", capture_output=True, text=True, timeout=30, check=False)
-        want((done.returncode, done.stdout.splitlines()[0]), (0, taken))
-        kinds = [json.loads(line)["kind"] for line in done.stdout.splitlines() if line.startswith("{")]
-        want(COUNTS & set(kinds), {"delivered"} if options else set())
+    done = subprocess.run(words, input="take alice\nstatus\nquit\n", capture_output=True, text=True, timeout=90, check=False)
+    want((done.returncode, done.stdout.splitlines()[0]), (0, "none"))
+    kinds = [json.loads(line)["kind"] for line in done.stdout.splitlines() if line.startswith("{")]
+    want(COUNTS & set(kinds), set())
 
 
 @case
-def nothing_without_the_option():
-    with station(SERVER) as (one, peer):
-        client = one.client()
-        for datagram in (metadata(1, 3, b"whole"), file_data(1, 0, b"abc"), end_of_file(1, b"abc"), metadata(2, 9, b"half")):
-            peer.sendto(datagram, ("127.0.0.1", one.port))
-        until(lambda: {line["seq"]: line["state"] for line in lines_of(client, "transaction")} == {1: "ended", 2: "active"}, "two files")
-        status = client.status()
-        want(COUNTS & {line["kind"] for line in status}, set())
-        want({name for line in status for name in line} & {"missing", "heard", "silence"}, set())
-        numbers, document = metrics_of(one.path)
-        want([name for name in numbers if NUMBERS.match(name)], [])
-        want({"ended", "delivered", "stores"} & set(document), set())
-        want("Ends" in one.ctl(CTL, "status").stdout, False)
+def dashboards_and_alerts():
+    """The examples for Grafana and Prometheus name numbers that the console has, and only labels that these have."""
+    with station(SERVER, options=(), limit=100) as (one, _):
+        numbers, _, families = metrics_of(one.path)
+    labels = {"condition", "role", "class", "remote", "user", "lane", "reason", "state", "instance"}
+    want({name.partition("{")[0] for name in numbers} <= families, True)
+    board = json.loads((MONITORING / "grafana.json").read_text())
+    shown = [target for panel in board["panels"] for target in panel["targets"]]
+    alerts = (MONITORING / "alerts.yml").read_text()
+    asked = [target["expr"] for target in shown] + re.findall(r"expr: (.*)", alerts)
+    named = " ".join([alerts, *(target["legendFormat"] for target in shown)])
+    want(sorted(set(re.findall(r"\bcfdp_\w+", " ".join(asked))) - families), [])
+    want(sorted(set(re.findall(r"(?:labels\.|\{\{)(\w+)", named)) - labels), [])
+    want((len(shown) > 10, len(asked) - len(shown) >= 10), (True, True))
 
 
 run_cases("counts", CASES)

@@ -1,8 +1,8 @@
 #!/usr/bin/env python3
-"""Prints docs/crates.md: all crates, layer by layer, each with the first paragraph of its README.
+"""Prints all crates, layer by layer, each with the first paragraph of its README.
 
-usage: tests/crates.py > docs/crates.md
-       tests/crates.py --check     fails where the page is stale, or a crate has no line in crates.txt or no README
+usage: tests/crates.py [WORD..]     only those in whose name or paragraph each word is
+       tests/crates.py --check      prints nothing; fails if a crate has no line in crates.txt, or no README that begins with a paragraph
 """
 import pathlib
 import re
@@ -10,16 +10,7 @@ import sys
 import textwrap
 
 TOP = pathlib.Path(__file__).resolve().parent.parent
-PAGE = TOP / "docs" / "crates.md"
 WIDTH = 120
-
-INTRO = """# Crate by crate
-
-`tests/crates.py` prints this page from `crates.txt` and from the first paragraph of each crate's README, and the gate fails where
-it is stale. The layers are in the order of `crates.txt`: a crate depends only on crates above it. The README behind each link says what
-the crate promises, what is only tested, and where to begin. [architecture](architecture.md) shows how the layers work together, and
-[proved](proved.md) has the promises in one table."""
-
 
 def fail(text):
     print(f"tests/crates.py: {text}")
@@ -51,31 +42,23 @@ def first_paragraph(crate):
     return text[:-1] + "." if text.endswith(":") else text
 
 
-def item(crate):
-    text = f"- [`{crate}`](../crates/{crate}/README.md): {first_paragraph(crate)}"
-    return "\n".join(textwrap.wrap(text, WIDTH, subsequent_indent="  ", break_long_words=False, break_on_hyphens=False))
+def item(crate, paragraph):
+    text = f"{crate}: {paragraph}"
+    return "\n".join(textwrap.wrap(text, WIDTH, initial_indent="  ", subsequent_indent="      ", break_long_words=False, break_on_hyphens=False))
 
 
-def page():
+def main():
+    words = [word.lower() for word in sys.argv[1:] if word != "--check"]
     layers = read_layers()
     listed = {crate for _, crates in layers for crate in crates}
     found = {path.name for path in (TOP / "crates").iterdir() if (path / "src").is_dir()}
     if listed != found:
         fail(f"crates.txt and the folder crates differ: {' '.join(sorted(listed ^ found))}")
-    parts = ["\n".join(textwrap.wrap(part, WIDTH, break_long_words=False, break_on_hyphens=False)) for part in INTRO.split("\n\n")]
     for title, crates in layers:
-        parts.append(f"## {title[0].upper()}{title[1:]}")
-        parts.append("\n".join(item(crate) for crate in crates))
-    return "\n\n".join(parts) + "\n"
-
-
-def main():
-    text = page()
-    if "--check" in sys.argv[1:]:
-        if not PAGE.exists() or PAGE.read_text() != text:
-            fail("docs/crates.md is stale: tests/crates.py > docs/crates.md")
-    else:
-        print(text, end="")
+        read = [(crate, first_paragraph(crate)) for crate in crates]
+        shown = [item(*one) for one in read if all(word in " ".join(one).lower() for word in words)]
+        if shown and "--check" not in sys.argv[1:]:
+            print("\n".join([title, *shown]))
 
 
 if __name__ == "__main__":

@@ -1,9 +1,10 @@
 #!/usr/bin/env python3
 """cfdp_ctl with a fake station: its exit statuses, its output, and what it does when the station goes away.
 
-usage: tests/ctl.py PROGRAM [SERVER]
+usage: tests/ctl.py PROGRAM [SERVER [folders|full]]
 
-With a server, two of them exchange files as well, under the program's commands.
+With a server, two of them exchange files as well, under the program's commands. With the word `folders` only what is about watched
+folders is tried, with `full` only a full outbox of a server, and without them all else; without a server watched folders too.
 """
 import atexit
 import contextlib
@@ -22,7 +23,7 @@ from support import Relay, Station, fill_backlog, free_port
 
 PROGRAM = os.path.abspath(sys.argv[1])
 STATION = os.path.join(os.path.dirname(os.path.abspath(__file__)), "fake_station.py")
-PATIENCE = 60
+PATIENCE = 240
 FOLDER = tempfile.mkdtemp(prefix="ctl-")
 atexit.register(shutil.rmtree, FOLDER, ignore_errors=True)
 SOCKET = os.path.join(FOLDER, "control")
@@ -78,9 +79,8 @@ def lines_like(kind):
 
 
 def has_clients(count):
-    """Waits until so many clients follow: they connect, and ask at once."""
+    """Waits until so many clients follow; the simulated station counts a client once it has answered it."""
     wait_for(f"{count} clients", lambda: lines_like("entity")[0]["clients"] > count)
-    time.sleep(0.3)
 
 
 def has_ended(*numbers):
@@ -121,6 +121,12 @@ def words_of_the_line():
             ("a watch without a remote", ["watch", FOLDER], b"--to REMOTE"),
             ("a watch of two folders", ["watch", "--to", "5", FOLDER, FOLDER], b"one folder"),
             ("an option of watch", ["send", "--to", "5", "--once", FILE], b"--once doesn't go with send"),
+            ("a word too many for a check", ["check", "now"], b"'now'"),
+            ("an option of status, for a check", ["check", "--json"], b"--json doesn't go with check"),
+            ("a retry that nobody waits for", ["send", "--to", "5", "--retry", "1", FILE], b"--retry needs --wait"),
+            ("too many retries", ["send", "--to", "5", "--wait", "--retry", "1001", FILE], b"'1001' is not a number from 0 to 1000"),
+            ("a folder for a watch", ["watch", FOLDER, "--to", "5", "-r"], b"--recursive doesn't go with watch"),
+            ("files deleted without a report", ["watch", FOLDER, "--to", "5", "--class", "1", "--delete"], b"--delete needs class 2"),
             ("too many events", ["follow", "--last", "1025"], b"'1025' is not a number from 0 to 1024"),
             ("a level that isn't there", ["follow", "--level", "debug"], b"'debug' must be detail, info or warning"),
             ("an option of send", ["watch", FOLDER, "--to", "5", "--urgent"], b"--urgent doesn't go with watch"),
@@ -153,6 +159,9 @@ def answers():
         run = ctl(given=b"follow 1\nsuspend ops 1 2\n")
         check("events between answers", run, 0)
         want("events between answers", run.stdout.startswith(b"ok\n") and run.stdout.count(b"\nevent {") == 1, run.stdout)
+        run = ctl(given=b"x" * 131_073 + b"quit\nsuspend ops 1 2\n" + b"x" * 131_072 + b"\n" + b"x" * 400_000)
+        check("commands that are too long", run, 3)
+        want("commands that are too long", run.stdout == b"bad command\nok\nbad command\nbad command\n", run.stdout)
         check("quit", ctl("quit"), 0, b"ok\n")
         run = ctl("status")
         end = time.monotonic() + 10
@@ -384,6 +393,148 @@ def at_a_terminal():
         want("a watch on a terminal, names", b"\\x1b[31m" in held, held)
 
 
+def journal_at_a_terminal():
+    """What a terminal would obey in a recording reaches a file, but no terminal."""
+    with station():
+        check("a recording, into a file", ctl("journal", "2.43"), 0, "# \x1b]0;a title\x07\u202e\n".encode())
+        person, program = pty.openpty()
+        run = subprocess.Popen([PROGRAM, "--control", SOCKET, "journal", "2.43"], stdin=program, stdout=program, env=PLAIN)
+        os.close(program)
+        run.wait(PATIENCE)
+        held = os.read(person, 65_536)
+        os.close(person)
+        want("a recording on a terminal", held == b"# \\x1b]0;a title\\x07\\u00202e\r\n", held)
+
+
+def status_over_restarts():
+    """Tables that are refreshed go on with the next server."""
+    run = None
+    try:
+        for turn in range(2):
+            with station("--users", f"user{turn}"):
+                if run is None:
+                    run = subprocess.Popen([PROGRAM, "--control", SOCKET, "status", "--watch"], stdout=subprocess.PIPE,
+                                           stderr=subprocess.PIPE, env=PLAIN)
+                told = b""
+                while b"user%d\n" % turn not in told:
+                    want("a status over a restart", run.poll() is None, told)
+                    told += os.read(run.stdout.fileno(), 65_536)
+        run.terminate()
+        _, errors = run.communicate(timeout=PATIENCE)
+        want("a status over a restart, what is said", errors.count(b"; waiting for it\n") in (1, 2), errors)
+    finally:
+        if run is not None and run.poll() is None:
+            run.kill()
+            run.wait()
+
+
+def many_files():
+    """A server that is busy with many files, and one whose outbox is full, get time as long as files go on."""
+    with station("--room", "3", "--step", "0.1"):
+        run = ctl("send", "--to", "5", "--wait", *[f"{n}.bin" for n in range(10)])
+        check("files for which the outbox has no room at first", run, 0, b"queued 10: 9.bin\n")
+        want("files for which the outbox has no room at first, their ends", run.stdout.count(b": finished: complete, retained\n") == 10, run.stdout)
+        check("files that nobody waits for", ctl("send", "--to", "5", *[f"{n}.bin" for n in range(10)]), 3, b"queued ", b"refused OutboxFull\n")
+    with station("--talk", "9", "--step", "3"):
+        check("a reply that comes late, after events", ctl("send", "--to", "5", "--wait", FILE), 0, b": finished: complete, retained\n")
+    with station("--flood", "70000", "--step", "3"):
+        check("too many events before a reply", ctl("send", "--to", "5", "--wait", FILE), 1, b"queued 1", b"too many events before its answer\n")
+    with station("--step", "1"):
+        check("hold", ctl("hold", "5"), 0)
+        folder = hot_folder("hot", {"a": 1})
+        runs = [subprocess.Popen([PROGRAM, "--control", SOCKET, *words], stdout=subprocess.DEVNULL, env=PLAIN)
+                for words in (["send", "--to", "5", "--wait", FILE], ["watch", folder, "--to", "5", "--once"])]
+        wait_for("who follows events", lambda: len(lines_like("entity")[0]["levels"]) == 2)
+        want("which events they follow", lines_like("entity")[0]["levels"] == ["info", "info"], lines_like("entity"))
+        check("release", ctl("release", "5"), 0)
+        want("files after a release", [run.wait(PATIENCE) for run in runs] == [0, 0], runs)
+
+
+def sends_again():
+    """A file that didn't arrive is sent again, as often as the line says."""
+    with station("--lose", "lost.bin", "--lost", "2"):
+        run = ctl("send", "--to", "5", "--wait", "--retry", "2", FILE, LOST)
+        check("a file that arrives at the third try", run, 0, b"lost.bin\n")
+        want("a file that arrives at the third try, its lines", (run.stdout.count(b"queued "), run.stdout.count(b"incomplete, discarded\n"),
+             run.stdout.count(b"complete, retained\n")) == (4, 2, 2), run.stdout)
+    with station("--lose", "lost.bin"):
+        run = ctl("send", "--to", "5", "--wait", "--retry", "1", LOST)
+        check("a file that never arrives", run, 4)
+        want("a file that never arrives, its lines", run.stdout.count(b"incomplete, discarded\n") == 2, run.stdout)
+    with station("--unreadable", "lost.bin"):
+        run = ctl("send", "--to", "5", "--wait", "--retry", "3", LOST)
+        check("a file that can't be read isn't sent again", run, 4)
+        want("a file that can't be read isn't sent again, its lines", run.stdout.count(b"queued ") == 1, run.stdout)
+
+
+def folders():
+    """A folder stands for its files, which are named relative to it."""
+    top = os.path.join(FOLDER, "tree")
+    os.makedirs(os.path.join(top, "below", "deep"), exist_ok=True)
+    names = ["a", "below/b c", "below/deep/.c", "z"]
+    for name in names:
+        with open(os.path.join(top, name), "wb") as file:
+            file.write(name.encode())
+    if not os.path.lexists(os.path.join(top, "a link")):
+        os.symlink(FILE, os.path.join(top, "a link"))
+    with station("--transactions", "0"):
+        check("a folder that isn't meant", ctl("send", "--to", "5", "tree"), 3, b"", b"no such file: tree\n")
+        for words in (["-r", "tree"], ["--recursive", top + "/"]):
+            run = ctl("send", "--to", "5", "--into", "in", "--wait", *words)
+            check(f"a folder {words}", run, 0)
+            want(f"a folder {words}, its files", run.stdout.count(b": finished: complete, retained\n") == 4, run.stdout)
+        seen = [(line["file"], line["to"]) for line in lines_like("transaction")]
+        want("the names of a folder's files", seen == [(name, "in/" + name) for name in names] * 2, seen)
+        check("a folder and a file", ctl("send", "--to", "5", "-r", "tree", FILE), 0, b"queued 13: " + FILE.encode())
+        check("a folder that isn't there", ctl("send", "--to", "5", "-r", FILE, "missing"), 3, b"", b"no such file: missing\n")
+
+
+def checks():
+    """A line for monitoring, by what a status says."""
+    sender = {"kind": "transaction", "source": 1, "seq": 4, "user": "ops", "role": "sender", "peer": 5, "class": 2}
+    lost = {"state": "ended", "condition": 8, "delivery": "incomplete", "status": "discarded"}
+    kept = {"state": "ended", "condition": 0, "delivery": "complete", "status": "retained"}
+    good = [{"kind": "entity", "id": 1}, {"kind": "log", "failing": False}, {"kind": "remote", "id": 5, "held": False},
+            {**sender, **kept}, {"kind": "storing", "source": 9, "seq": 1}]
+    queued = {"kind": "queued", "number": 1, "destination": 5}
+    for lines, status, line in (
+            (good, 0, "OK: files to send: 0"), (good + [{**sender, "state": "active"}, queued], 0, "OK: files to send: 2"),
+            (good + [{"kind": "remote", "id": 7, "held": True}], 1, "WARNING: links held: 1, files to send: 0"),
+            (good + [{**sender, **lost}] * 2, 1, "WARNING: transactions failed: 2, files to send: 0"),
+            (good + [{"kind": "storing", "why": "no space is left"}], 1, "WARNING: received files not stored: 1, files to send: 0"),
+            ([{"kind": "log", "failing": True}], 1, "WARNING: the log can't be written, files to send: 0"),
+            (good + [queued] * 1023, 0, "OK: files to send: 1023"),
+            (good + [queued] * 1024, 2, "CRITICAL: the outbox is full, files to send: 1024"),
+            (good + [queued] * 1023 + [{**sender, "state": "active"}, {**sender, **lost}], 2,
+             "CRITICAL: the outbox is full, transactions failed: 1, files to send: 1024")):
+        with station(*said(lines)):
+            run = ctl("check")
+            want(f"a check of {lines[-1]}", (run.returncode, run.stdout, run.stderr) == (status, line.encode() + b"\n", b""), run)
+    os.unlink(SOCKET)
+    for option, why in ((None, "no server answers at the control socket"), ("--busy", "the server has no seat for another client")):
+        with station(option) if option else contextlib.nullcontext():
+            run = ctl("check")
+            want(f"a check, {why}", (run.returncode, run.stdout) == (2, f"CRITICAL: {SOCKET}: {why}\n".encode()), run)
+    with station("--old"):
+        check("a check of a server without status", ctl("check"), 2, b"CRITICAL: bad command\n")
+
+
+def long_names():
+    """A path or a name at the receiver that no command takes is told, and the other files go."""
+    deep = os.path.join(FOLDER, "d" * 200)
+    os.makedirs(deep, exist_ok=True)
+    name = "n" * (255 - len(deep) - 1)
+    for one in (name, name + "n"):
+        with open(os.path.join(deep, one), "wb") as file:
+            file.write(b"x")
+    with station("--transactions", "0"):
+        run = ctl("send", "--to", "5", "--wait", os.path.join(deep, name + "n"), os.path.join(deep, name))
+        check("a path that is too long", run, 3, b"queued 1: ", b"nn: its path or its name at the receiver has more than 255 octets\n")
+        want("a path that is not", run.stdout.count(b"finished: complete, retained\n") == 1, run.stdout)
+        run = ctl("send", "--to", "5", "--into", "i" * 250, FILE)
+        check("a name at the receiver that is too long", run, 3, b"", b"has more than 255 octets\n")
+
+
 def events():
     with station("--lose", "lost.bin"):
         run = subprocess.Popen([PROGRAM, "--control", SOCKET, "follow"], stdout=subprocess.PIPE, stderr=subprocess.PIPE,
@@ -457,7 +608,7 @@ def sends():
             if line.get("role") == "sender":
                 name = ODD[line["seq"] - 100]
                 want(f"where {name!r} comes from and goes to",
-                     (line["file"], line["to"]) == (os.path.join(FOLDER, name), "in box/" + name), line)
+                     (line["file"], line["to"]) == (name, "in box/" + name), line)
         check("a file", ctl("send", "--to", "5", FILE), 0, b"queued 5: ")
         for missing in ("missing.bin", FOLDER, FILE + "/", "\x1b[2J"):
             run = ctl("send", "--to", "5", FILE, missing)
@@ -691,8 +842,9 @@ def with_servers(server):
     both = []
     try:
         logs = [os.path.join(FOLDER, f"log{number}") for number in (1, 2)]
-        both += [Station(server, 1, ports[0], 2, ports[1], ("--log", logs[0]), users=("alice",)),
-                 Station(server, 2, ports[1], 1, ports[0], ("--log", logs[1]), users=("alice",))]
+        # a file for nobody stays under way for a minute
+        both += [Station(server, 1, ports[0], 2, ports[1], (f"log.file = '{logs[0]}'",), users=("alice",), limit=200),
+                 Station(server, 2, ports[1], 1, ports[0], (f"log.file = '{logs[1]}'",), users=("alice",))]
         for one in both:
             one.client().close()
         sender = both[0]
@@ -749,7 +901,7 @@ def hot_folder_of_servers(server):
     try:
         def start(number):
             peer = 3 - number
-            words = (server, number, ports[number - 1], peer, relay.ports[number - 1], ("--numbers", f"numbers{number}"))
+            words = (server, number, ports[number - 1], peer, relay.ports[number - 1], (f"sending.numbers = 'numbers{number}'",))
             # a file waits until the receiver gives up those of a sender that was killed, whose lanes they are in, several in turn: so
             # the sender has much more patience
             one = Station(*words, users=("alice",), limit=120 if number == 1 else 15)
@@ -767,7 +919,7 @@ def hot_folder_of_servers(server):
             time.sleep(1)
             run.kill()
             run.wait()
-        run = subprocess.run([*line, "--once"], capture_output=True, timeout=110, env=PLAIN)
+        run = subprocess.run([*line, "--once"], capture_output=True, timeout=400, env=PLAIN)
         want("a hot folder of servers", (run.returncode, left_in(folder)) == (0, ([], sorted(names), [])), (run, left_in(folder)))
         arrived = {path.name: path.stat().st_size for path in receiver.received().iterdir() if path.name in names}
         want("a hot folder of servers, at the receiver", arrived == names, arrived)
@@ -778,15 +930,107 @@ def hot_folder_of_servers(server):
         os.chdir(before)
 
 
+def watched_server(server):
+    """What a folder's file was when a server read it, and the name that its receiver learns."""
+    ports = [free_port(), free_port()]
+    before = os.getcwd()
+    os.chdir(FOLDER)
+    both = []
+    try:
+        log = os.path.join(FOLDER, "log of a receiver")
+        both += [Station(server, 1, ports[0], 2, ports[1], users=("alice",), limit=200),
+                 Station(server, 2, ports[1], 1, ports[0], (f"log.file = '{log}'",), users=("alice",))]
+        for one in both:
+            one.client().close()
+        sender, receiver = both
+        folder = hot_folder("hot", {"slow": 30_000, "waits": 50})
+
+        def told(*words):
+            run = sender.ctl(PROGRAM, *words)
+            want(" ".join(words), run.returncode == 0, run)
+            return [json.loads(line) for line in run.stdout.splitlines() if line.startswith("{")]
+
+        def here(*words):
+            return subprocess.Popen([PROGRAM, "--control", sender.path, "watch", folder, "--to", "2", *words], stdout=subprocess.PIPE,
+                                    stderr=subprocess.PIPE, env=PLAIN)
+
+        told("rate", "2", "2000")
+        run = here()
+        wait_for("a file under way", lambda: any(one["kind"] == "transaction" for one in told("status", "--json")))
+        run.kill()
+        run.communicate()
+        with open(os.path.join(folder, "new"), "wb") as file:
+            file.write(b"y" * 20_000)
+        os.rename(os.path.join(folder, "new"), os.path.join(folder, "slow"))
+        run = here("--once")
+        wait_for("a second one who watches", lambda: told("status", "--json")[0]["clients"] > 1)
+        told("rate", "2", "off")
+        _, errors = run.communicate(timeout=PATIENCE)
+        want("a file replaced while nobody watched, over servers", (run.returncode, left_in(folder)) == (0, ([], ["slow", "waits"], [])), errors)
+        arrived = (receiver.received() / "slow").read_bytes()
+        want("a file replaced while nobody watched, at the receiver", arrived == b"y" * 20_000, arrived[:10])
+        with open(os.path.join(folder, "old"), "wb") as file:
+            file.write(b"x" * 70)
+        told("hold", "2")
+        run = here("--once")
+        wait_for("a file that waits", lambda: any(one["kind"] == "queued" for one in told("outbox", "--json")))
+        os.rename(os.path.join(folder, "old"), os.path.join(folder, "renamed"))
+        # the next look at the folder, twice a second
+        time.sleep(2)
+        told("release", "2")
+        _, errors = run.communicate(timeout=PATIENCE)
+        want("a file that is renamed while it waits", (run.returncode, left_in(folder)) == (0, ([], ["renamed", "slow", "waits"], [])), errors)
+        want("a file that is renamed while it waits, at the receiver", (receiver.received() / "renamed").stat().st_size == 70, errors)
+        with open(log, encoding="utf-8") as lines:
+            names = {event["file"] for event in map(json.loads, lines) if event.get("name") == "Metadata-Recv"}
+        want("the names that a receiver learns of a watched folder", names == {"slow", "waits", "renamed"}, names)
+    finally:
+        for one in both:
+            one.close()
+        os.chdir(before)
+
+
+def full_outbox_of_servers(server):
+    """More files than an outbox has room for, sent at once: each arrives, and nobody gives up while files go on."""
+    ports = [free_port(), free_port()]
+    before = os.getcwd()
+    os.chdir(FOLDER)
+    both = []
+    try:
+        both += [Station(server, 1, ports[0], 2, ports[1], users=("alice",), lanes=8, limit=200),
+                 Station(server, 2, ports[1], 1, ports[0], users=("alice",), limit=200)]
+        for one in both:
+            one.client().close()
+        folder = os.path.join(FOLDER, "many")
+        os.makedirs(folder)
+        for number in range(1_030):
+            with open(os.path.join(folder, f"{number}"), "wb") as file:
+                file.write(b"x" * 100)
+        both[0].ctl(PROGRAM, "hold", "2")
+        run = subprocess.Popen([PROGRAM, "--control", both[0].path, "send", "--to", "2", "--wait", "-r", folder], stdout=subprocess.PIPE,
+                               stderr=subprocess.PIPE, env=PLAIN)
+        # then the outbox is full; a status of so many files, asked for all the time, would keep the server busy
+        queued = [run.stdout.readline() for _ in range(1_024)]
+        want("files for a full outbox", all(line.startswith(b"queued ") for line in queued), queued[-1])
+        both[0].ctl(PROGRAM, "release", "2")
+        out, errors = run.communicate(timeout=800)
+        want("more files than an outbox takes", (run.returncode, out.count(b": finished: complete, retained\n"), errors) == (0, 1_030, b""),
+             (run.returncode, errors, out[-400:]))
+    finally:
+        for one in both:
+            one.close()
+        os.chdir(before)
+
+
 def completions():
     """The words that bash offers."""
     script = os.path.join(os.path.dirname(os.path.abspath(__file__)), "..", "docs", "completion", "cfdp_ctl")
     for line, offered in (
-            ([""], {"--colour", "--control", "abandon", "cancel", "drop", "follow", "history", "hold", "journal", "outbox", "rate",
+            ([""], {"--colour", "--control", "abandon", "cancel", "check", "drop", "follow", "history", "hold", "journal", "outbox", "rate",
                     "release", "reopen", "resume", "send", "status", "suspend", "watch", "--help", "--version", "--wait-for-server", "--width"}),
             (["--c"], {"--colour", "--control"}), (["re"], {"release", "reopen", "resume"}), (["--control", "x", "sta"], {"status"}),
             (["status", "--"], {"--json", "--watch", "--failed", "--remote"}), (["outbox", "-"], {"--json"}),
-            (["watch", "--"], {"--to", "--user", "--class", "--into", "--once"}), (["follow", "--l"], {"--last", "--level"}),
+            (["watch", "--"], {"--to", "--user", "--class", "--into", "--once", "--delete"}), (["follow", "--l"], {"--last", "--level"}),
             (["abandon", "--y"], {"--yes"}), (["send", "--to", "5", "--c"], {"--class", "--closure"}), (["send", "a"], set()),
             (["history", "--l"], {"--log"}), (["hold", "--"], set()), (["any"], set())):
         words = [PROGRAM, *line]
@@ -819,7 +1063,8 @@ def left_in(folder):
     inside = {path: sorted(os.listdir(os.path.join(folder, path))) if os.path.isdir(os.path.join(folder, path)) else []
               for path in ("", "sent", "failed")}
     want(f"{folder}, what is left alone", {".hidden", "a link", "below"} <= set(inside[""]), inside)
-    return sorted(set(inside[""]) - {".hidden", "a link", "below", "sent", "failed"}), inside["sent"], inside["failed"]
+    return (sorted(set(inside[""]) - {".cfdp_ctl.lock", ".hidden", "a link", "below", "sent", "failed"}), inside["sent"],
+            inside["failed"])
 
 
 def hot_folders():
@@ -861,12 +1106,16 @@ def hot_folders():
         want("files with one name", left_in(folder)[:2] == ([], ["a.bin", "a.bin.2", "a.bin.3", "d.bin"]), left_in(folder))
         check("an empty folder", ctl("watch", folder, "--to", "5", "--once"), 0, b"")
     with station("--transactions", "0"):
-        name = "n" * 255
+        name = "n" * (255 - len(os.path.join(FOLDER, "hot", "")))
         folder = hot_folder("hot", {name: 10})
         check("a file with the longest name", ctl("watch", folder, "--to", "5", "--once"), 0, b"finished: complete")
         want("a file with the longest name, where it is", left_in(folder) == ([], [name], []), left_in(folder))
         shutil.copy2(os.path.join(folder, "sent", name), folder)
         check("a file with the longest name that is in sent", ctl("watch", folder, "--to", "5", "--once"), 0, b"", b"it is in sent already")
+        folder = hot_folder("hot", {name + "n": 10, "a": 1})
+        run = ctl("watch", folder, "--to", "5", "--once")
+        check("a file whose path is too long", run, 4, b"n: its path or its name at the receiver has more than 255 octets\n")
+        want("a file whose path is too long, where it is", left_in(folder) == ([], ["a"], [name + "n", name + "n.why"]), left_in(folder))
     with station("--lose", "b", "--transactions", "0"):
         folder = hot_folder("hot", {"b": 10})
         os.mkdir(os.path.join(folder, "failed"))
@@ -893,7 +1142,10 @@ def hot_folders():
         want("a file that the outbox doesn't take at first, where it is", left_in(folder) == ([], ["a.bin"], []), left_in(folder))
         check("a file that the outbox doesn't take at first, with send", ctl("send", "--to", "5", FILE), 0, b"queued 2")
     hot_folders_change()
+    hot_folders_move()
     hot_folders_restart()
+    hot_folders_locked()
+    hot_folders_deleted()
 
 
 def hot_folders_change():
@@ -925,6 +1177,74 @@ def hot_folders_change():
         run.communicate()
 
 
+def watching(folder, *words):
+    """Somebody who watches a folder."""
+    return subprocess.Popen([PROGRAM, "--control", SOCKET, "watch", folder, "--to", "5", *words], stdout=subprocess.PIPE,
+                            stderr=subprocess.PIPE, env=PLAIN)
+
+
+def hot_folders_move():
+    """A file that gets another content or another name at the wrong moment: what is in `sent` is what was sent last."""
+    def sizes():
+        return [size for _, size in sent_of(ctl("status", "--json").stdout)]
+
+    with station("--transactions", "0"):
+        folder = hot_folder("hot", {"slow": 100})
+        kept = os.path.join(folder, "sent", "slow")
+        run = watching(folder)
+        wait_for("a file that has arrived", lambda: left_in(folder) == ([], ["slow"], []))
+        with open(kept, "ab") as file:
+            file.write(b"x" * 100)
+        wait_for("a file whose writer went on", lambda: 200 in sizes())
+        wait_for("a file whose writer went on, where it is", lambda: left_in(folder) == ([], ["slow"], []))
+        want("a file whose writer went on, its content", (sizes(), os.path.getsize(kept)) == ([100, 200], 200), sizes())
+        run.kill()
+        _, errors = run.communicate()
+        want("a file whose writer went on, what is said", b"slow: it changed since it was sent, and is sent again\n" in errors, errors)
+    with station("--transactions", "0", "--step", "3"):
+        folder = hot_folder("hot", {"a": 100, "b": 50})
+        run = watching(folder)
+        wait_for("files under way", lambda: sizes() == [100, 50])
+        run.kill()
+        run.communicate()
+        with open(os.path.join(folder, "a.new"), "wb") as file:
+            file.write(b"y" * 70)
+        os.rename(os.path.join(folder, "a.new"), os.path.join(folder, "a"))
+        run = watching(folder, "--once")
+        _, errors = run.communicate(timeout=PATIENCE)
+        want("a file that was replaced while nobody watched", (run.returncode, left_in(folder)) == (0, ([], ["a", "b"], [])), errors)
+        want("a file that was replaced while nobody watched, what was sent", (sorted(sizes()), os.path.getsize(os.path.join(folder, "sent", "a")))
+             == ([50, 50, 70, 100], 70), sizes())
+    with station("--transactions", "0", "--step", "4"):
+        folder = hot_folder("hot", {"a": 100})
+        run = watching(folder, "--once")
+        wait_for("a file under way", lambda: sizes() == [100])
+        os.rename(os.path.join(folder, "a"), os.path.join(folder, "b"))
+        run.communicate(timeout=PATIENCE)
+        want("a file that is renamed while it is under way", (run.returncode, left_in(folder), sizes()) == (0, ([], ["b"], []), [100]), (left_in(folder), sizes()))
+
+
+def hot_folders_deleted():
+    """A file whose receiver keeps it is deleted after a while, and one that failed is not."""
+    with station("--transactions", "0", "--lose", "b"):
+        folder = hot_folder("hot", {"a": 10, "b": 20})
+        check("a folder whose files are deleted", ctl("watch", folder, "--to", "5", "--once", "--delete"), 4)
+        want("a folder whose files are deleted, what is left", left_in(folder) == ([], [], ["b", "b.why"]), left_in(folder))
+
+
+def hot_folders_locked():
+    """One program watches a folder, and tells a second one so."""
+    with station("--transactions", "0"):
+        folder = hot_folder("hot", {})
+        run = watching(folder)
+        wait_for("who watches", lambda: os.path.exists(os.path.join(folder, "sent")))
+        check("a second who watches", ctl("watch", folder, "--to", "5", "--once"), 3, b"", f"cfdp_ctl: {folder}: another program watches this folder\n".encode())
+        want("the first who watches", run.poll() is None, run.returncode)
+        run.kill()
+        run.communicate()
+        check("the next who watches", ctl("watch", folder, "--to", "5", "--once"), 0)
+
+
 def hot_folders_restart():
     """Who watches, and the server, end amid the files and begin again."""
     names = {f"{number:02}.bin": number for number in range(20)}
@@ -952,7 +1272,7 @@ def hot_folders_restart():
             else:
                 _, errors = run.communicate(timeout=PATIENCE)
     want("a server that restarts", (run.returncode, left_in(folder)) == (0, ([], sorted(names), [])), (run.returncode, errors, left_in(folder)))
-    want("a server that restarts is waited for", errors.count(b"; waiting for it\n") == 2, errors)
+    want("a server that restarts is waited for", errors.count(b"; waiting for it\n") in (2, 3), errors)
 
 
 def progress():
@@ -983,36 +1303,38 @@ def pipes():
             run.stdout.read(10)
             run.stdout.close()
             run.wait(PATIENCE)
-        begun = time.monotonic()
-        check("two thousand transactions", ctl("--wait-for-server", "40", "status"), 0)
-        want("two thousand transactions, how long it took", time.monotonic() - begun < 40, time.monotonic() - begun)
+        check("two thousand transactions", ctl("--wait-for-server", "200", "status"), 0)
 
 
 for name in (FILE, LOST):
     with open(name, "wb") as file:
         file.write(b"x" * 5000)
-words_of_the_line()
-answers()
-no_answers()
-tables()
-layout()
-words_of_events()
-tones_of_events()
-at_a_terminal()
-events()
-last_events()
-next_servers()
-sends()
-bad_ends()
-outbox()
-histories()
-acts()
-choices()
-hot_folders()
-completions()
-progress()
-pipes()
-if len(sys.argv) > 2:
-    with_servers(os.path.abspath(sys.argv[2]))
-    hot_folder_of_servers(os.path.abspath(sys.argv[2]))
-print("cfdp_ctl: words, answers, tables, events, files, histories, hot folders, and stations that go away")
+SERVER = os.path.abspath(sys.argv[2]) if len(sys.argv) > 2 else None
+PART = sys.argv[3] if len(sys.argv) > 3 else None
+
+
+def all_but_folders():
+    for case in (words_of_the_line, answers, no_answers, tables, layout, words_of_events, tones_of_events, at_a_terminal,
+                 journal_at_a_terminal, status_over_restarts, events, last_events, next_servers, sends, many_files, sends_again, folders,
+                 checks, long_names, bad_ends, outbox, histories, acts, choices, completions, progress, pipes):
+        case()
+    if SERVER:
+        with_servers(SERVER)
+
+
+def watched_folders():
+    hot_folders()
+    if SERVER:
+        watched_server(SERVER)
+        hot_folder_of_servers(SERVER)
+
+
+if PART is None:
+    all_but_folders()
+    print("cfdp_ctl: words, answers, tables, events, files, histories, checks, and stations that go away")
+if PART == "folders" or not SERVER:
+    watched_folders()
+    print("cfdp_ctl: files of watched folders, whatever happens to them meanwhile")
+if PART == "full":
+    full_outbox_of_servers(SERVER)
+    print("cfdp_ctl: more files at once than an outbox has room for")

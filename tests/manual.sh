@@ -12,8 +12,8 @@ for program in "$@"; do
         echo "$name: prints $("$program" --version), and CHANGELOG.md begins with $version"
         exit 1
     fi
-    helped=$("$program" --help | grep -o -- '^  --[a-z]*' | tr -d ' ' | sort)
-    told=$(sed -n '/^\.SH OPTIONS/,/^\.SH [^O]/s/^\.BI* \\-\\-\([a-z]*\).*/--\1/p' "$manual/$name.1" | sort)
+    helped=$("$program" --help | grep -oE -- '^  --[a-z]+(-[a-z]+)*' | tr -d ' ' | sort)
+    told=$(sed -n '/^\.SH OPTIONS/,/^\.SH [^O]/s/^\.BI* \\-\\-\([a-z\\-]*\).*/--\1/p' "$manual/$name.1" | tr -d '\\' | sort)
     if [ -z "$helped" ] || [ "$helped" != "$told" ]; then
         echo "$name: its help has $(echo $helped), and its manual page $(echo $told)"
         exit 1

@@ -34,7 +34,7 @@ read_config TimerList::apply WordReader::with_room Gaps::copy""".split()
 # The answer to a send at an intake that is closed, which needs memory first.
 CLOSED = "closed"
 # How many seconds a run may take, and how many runs are made at the same time.
-PATIENCE = 60
+PATIENCE = 240
 AT_ONCE = os.cpu_count() or 1
 
 # Worked transactions, as the lines of scripts: a file is received in class 1, and in class 2, and one is put in class 2,

@@ -16,7 +16,7 @@ import sys
 import tempfile
 import time
 
-from support import Wrong, close_run, configuration, fastest, want
+from support import Wrong, close_run, configuration, fastest, station_text, want
 
 SERVER, PUT = (os.path.abspath(path) for path in sys.argv[1:3])
 KILLS = 100
@@ -57,8 +57,9 @@ class Peer:
 
 @contextlib.contextmanager
 def server(*options):
-    words = [SERVER, "--config", "config", "--bind", "127.0.0.1:0", "--folder", ".", "--workers", "1", "--control", "control"]
-    run = subprocess.Popen([*words, *options], stdin=subprocess.DEVNULL, stdout=subprocess.PIPE, stderr=subprocess.PIPE)
+    text = station_text(pathlib.Path("config").read_text(), "127.0.0.1:0", "files", "control", options, workers=1)
+    pathlib.Path("station.toml").write_text(text)
+    run = subprocess.Popen([SERVER, "station.toml"], stdin=subprocess.DEVNULL, stdout=subprocess.PIPE, stderr=subprocess.PIPE)
     try:
         yield run
     finally:
@@ -66,10 +67,10 @@ def server(*options):
 
 
 def connected(run):
-    end = time.monotonic() + 20
+    end = time.monotonic() + 60
     while True:
         client = socket.socket(socket.AF_UNIX)
-        client.settimeout(20)
+        client.settimeout(60)
         try:
             client.connect("control")
             return client
@@ -95,17 +96,17 @@ def ended(*options):
     """The end of a server that can't start."""
     with server(*options) as run:
         try:
-            status = run.wait(20)
+            status = run.wait(60)
         except subprocess.TimeoutExpired:
             raise Wrong("it did not end") from None
-        return status, run.stderr.read().decode()
+        return status, run.stderr.read().decode().splitlines()[0] + "\n"
 
 
 def killed_servers(peer, chance):
     """A server is killed at random moments of many Puts, again and again."""
     seen = set()
     for _ in range(KILLS):
-        with server("--numbers", "numbers") as run:
+        with server("sending.numbers = 'numbers'") as run:
             client = connected(run)
             puts = b"".join(b"put %s %d 1 1 file to\n" % (user, lane) for user in (b"alice", b"bob") for lane in (0, 1))
             client.sendall(puts * 50)
@@ -132,7 +133,7 @@ def a_killed_lane(peer):
     """More Puts in one lane than the file of numbers covers at once, a kill, and no number comes again."""
     seen = []
     for count in (PUTS_OF_A_LANE, 1):
-        with server("--numbers", "lane-numbers") as run:
+        with server("sending.numbers = 'lane-numbers'") as run:
             client = connected(run)
             end, here = time.monotonic() + 60, []
             while len(here) < count and time.monotonic() < end:
@@ -171,15 +172,15 @@ def faults(peer):
     """Files without a number, that can't be written, or that another program uses."""
     for text in (b"", b"5x\n", b"\xff\n", b"9223372036854775808\n"):
         pathlib.Path("odd").write_bytes(text)
-        want(ended("--numbers", "odd"), (1, "cfdp_server: numbers fault\n"))
+        want(ended("sending.numbers = 'odd'"), (1, "cfdp_server: numbers fault\n"))
         want(pathlib.Path("odd").read_bytes(), text)
-    want(ended("--numbers", "nowhere/numbers"), (1, "cfdp_server: numbers fault\n"))
+    want(ended("sending.numbers = 'nowhere/numbers'"), (1, "cfdp_server: numbers fault\n"))
     os.makedirs("folder", exist_ok=True)
-    want(ended("--numbers", "folder"), (1, "cfdp_server: numbers fault\n"))
-    with server("--numbers", "shared") as run:
+    want(ended("sending.numbers = 'folder'"), (1, "cfdp_server: numbers fault\n"))
+    with server("sending.numbers = 'shared'") as run:
         client = connected(run)
         words = ["--config", "config", "--bind", "127.0.0.1:0", "--user", "alice", "--remote", "1", "--class", "1"]
-        second = subprocess.run([PUT, *words, "--numbers", "shared", "file", "to"], capture_output=True, timeout=20, check=False)
+        second = subprocess.run([PUT, *words, "--numbers", "shared", "file", "to"], capture_output=True, timeout=60, check=False)
         want((second.returncode, second.stderr), (1, b"cfdp_put: numbers fault\n"))
         want(ask(client, "put alice 0 1 1 file to")[0], "ok")
         os.unlink("shared")
@@ -188,7 +189,7 @@ def faults(peer):
             answer = ask(client, "put alice 0 1 1 file to")
         want(answer, ["numbers fault"])
         want(ask(client, "quit"), ["ok"])
-        want(run.wait(20), 0)
+        want(run.wait(60), 0)
         client.close()
     want(os.path.exists("shared.lock"), False)
     peer.numbers()
@@ -207,7 +208,7 @@ def first_numbers(peer):
 
 def first_put(numbers):
     """The number of a server's first Put, after which the server is killed."""
-    with server("--numbers", numbers) as run:
+    with server(f"sending.numbers = '{numbers}'") as run:
         client = connected(run)
         [_, txn] = ask(client, "put alice 0 1 1 file to")
         client.close()

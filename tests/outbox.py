@@ -16,7 +16,8 @@ import threading
 import time
 
 from support import (
-    Station, Wrong, case, close_run, configuration, fill, free_port, in_own_mounts, run_cases, small_disk, socket_of_peer, until, want,
+    Station, Wrong, case, close_run, configuration, fill, free_port, in_own_mounts, run_cases, small_disk, socket_of_peer,
+    station_text, until, want,
 )
 
 SERVER = os.path.abspath(sys.argv[1])
@@ -77,7 +78,7 @@ class Sender:
         self.start(*options)
 
     def start(self, *options):
-        words = ("--outbox", self.at, "--numbers", "numbers", *options)
+        words = (f"sending.outbox = '{self.at}'", "sending.numbers = 'numbers'", *options)
         self.one = Station(SERVER, 1, self.port, 2, self.peer.port, **{"options": words, **self.named})
         self.client = self.one.client()
 
@@ -92,7 +93,7 @@ class Sender:
     def quit(self):
         """Lets the server end by itself."""
         want(self.client.ask("quit"), ["ok"])
-        want(self.one.run.wait(20), 0)
+        want(self.one.run.wait(60), 0)
 
     def close(self):
         self.one.close()
@@ -121,23 +122,23 @@ def lines(path="outbox"):
 @case
 def what_waits_is_there_after_a_restart():
     """Order, numbers, users, names and moments stay, whether the server quits or is killed; and numbers go on."""
-    with sender("--hold") as one:
+    with sender("station.hold = true") as one:
         want(one.client.ask("send alice 2 2 a first"), ["queued 1"])
         want(one.client.ask("send bob 1 2 b second closure"), ["queued 2"])
         want(one.client.ask('send alice 1 2 c "a \\"third\\" \\xff one" urgent as "other name"'), ["queued 3"])
         listed = one.waiting()
         want([(line["number"], line["user"]) for line in listed], [(1, "alice"), (2, "bob"), (3, "alice")])
-        one.restart("--hold")
+        one.restart("station.hold = true")
         want(one.waiting(), listed)
         one.quit()
         want(os.path.exists("outbox.lock"), False)
-        one.start("--hold")
+        one.start("station.hold = true")
         want(one.waiting(), listed)
         want(one.client.ask("send bob 1 2 a fourth"), ["queued 4"])
-        one.restart("--hold")
+        one.restart("station.hold = true")
         want(one.numbers(), [1, 2, 3, 4])
         want(one.client.ask("drop 4"), ["ok"])
-        one.restart("--hold")
+        one.restart("station.hold = true")
         want((one.numbers(), one.client.ask("drop 4")), ([1, 2, 3], ["refused NotQueued"]))
         want(one.client.ask("send bob 1 2 a fifth"), ["queued 5"])
 
@@ -145,7 +146,7 @@ def what_waits_is_there_after_a_restart():
 @case
 def an_urgent_file_is_still_urgent():
     """After a restart it goes before its user's others, and another source name is told to the receiver. What ended doesn't come back."""
-    with sender("--hold", lanes=1, users=("alice",)) as one:
+    with sender("station.hold = true", lanes=1, users=("alice",)) as one:
         for words in ("a first", "b second", "c third urgent as other"):
             one.client.ask(f"send alice 1 2 {words}")
         one.restart()
@@ -162,8 +163,9 @@ def an_urgent_file_is_still_urgent():
 
 @case
 def what_is_under_way_comes_back():
-    """A transaction that a kill interrupts begins again, as a new one; one that was abandoned does not."""
-    with sender(lanes=1, users=("alice",)) as one:
+    """A transaction that a kill interrupts begins again, as a new one; one that was abandoned does not. Nobody answers it, and no limit
+    ends it before."""
+    with sender(lanes=1, users=("alice",), limit=200) as one:
         one.client.ask("send alice 2 2 a first")
         until(lambda: one.peer.targets() == ["first"], "the file")
         until(lambda: "began 1" in lines(), "its line")
@@ -181,7 +183,7 @@ def what_is_under_way_comes_back():
 @case
 def a_file_that_cannot_be_sent_does_not_come_back():
     """It is told as not sent once."""
-    with sender("--hold") as one:
+    with sender("station.hold = true") as one:
         want(one.client.ask("follow"), ["ok"])
         one.client.ask("send alice 1 2 missing x")
         one.client.ask("release 2")
@@ -194,26 +196,25 @@ def a_file_that_cannot_be_sent_does_not_come_back():
 
 @case
 def a_file_whose_users_queue_is_full():
-    """It waits until its user has taken an indication, with the file of an outbox and without."""
-    for options in ((), ("--outbox", "outbox", "--numbers", "numbers")):
-        with socket_of_peer() as peer:
-            there = f"127.0.0.1:{peer.getsockname()[1]}"
-            pathlib.Path("config").write_text(configuration(there, users=("alice",), timer=60_000, capacity=1))
-            os.makedirs("received", exist_ok=True)
-            pathlib.Path("a").write_bytes(b"abc")
-            words = ("--config", "config", "--bind", f"127.0.0.1:{free_port()}", "--folder", "received")
-            run = subprocess.Popen([SERVER, *words, *options], stdin=subprocess.PIPE, stdout=subprocess.PIPE, text=True)
-            guard = threading.Timer(60, run.kill)
-            guard.start()
-            try:
-                want(replies(run, "put alice 0 2 1 a b")[0], "ok")
-                want(replies(run, "send alice 2 1 a c"), ["queued 1"])
-                time.sleep(2.5)
-                want(len(replies(run, "outbox")), 1)
-                until(lambda: replies(run, "take alice") and not replies(run, "outbox"), "the file")
-            finally:
-                guard.cancel()
-                close_run(run)
+    """It waits until its user has taken an indication."""
+    with socket_of_peer() as peer:
+        there = f"127.0.0.1:{peer.getsockname()[1]}"
+        pathlib.Path("config").write_text(configuration(there, users=("alice",), timer=60_000, capacity=1))
+        os.makedirs("received", exist_ok=True)
+        pathlib.Path("a").write_bytes(b"abc")
+        words = ("--config", "config", "--bind", f"127.0.0.1:{free_port()}", "--folder", "received")
+        run = subprocess.Popen([SERVER, *words], stdin=subprocess.PIPE, stdout=subprocess.PIPE, text=True)
+        guard = threading.Timer(120, run.kill)
+        guard.start()
+        try:
+            want(replies(run, "put alice 0 2 1 a b")[0], "ok")
+            want(replies(run, "send alice 2 1 a c"), ["queued 1"])
+            time.sleep(2.5)
+            want(len(replies(run, "outbox")), 1)
+            until(lambda: replies(run, "take alice") and not replies(run, "outbox"), "the file")
+        finally:
+            guard.cancel()
+            close_run(run)
 
 
 def replies(run, command):
@@ -254,7 +255,7 @@ def send_until_killed(one, kill, answered):
         answered.append((int(answer[0].split()[1]), f"{name}{kill}"))
     if kill % 2:
         one.client.stream.sendall(b"send alice 1 2 a unanswered\n")
-    end = time.monotonic() + 20
+    end = time.monotonic() + 90
     while counted(one, answered) < wanted:
         want((kill, time.monotonic() < end), (kill, True))
         time.sleep(0.003)
@@ -269,10 +270,10 @@ def fifty_kills():
         for kill in range(KILLS):
             send_until_killed(one, kill, answered)
             one.start()
-        until(lambda: count_of("queued") == count_of("ended"), "the end of all files", 60)
+        until(lambda: count_of("queued") == count_of("ended"), "the end of all files", 180)
         want(one.numbers(), [])
         known = [name for _, name in answered]
-        until(lambda: set(known) <= set(one.peer.whole()), "each file", 10)
+        until(lambda: set(known) <= set(one.peer.whole()), "each file")
         want([number for number, _ in answered], sorted({number for number, _ in answered}))
         want([name for name in dict.fromkeys(one.peer.targets()) if name in known], known)
 
@@ -281,7 +282,7 @@ def fifty_kills():
 def a_full_disk():
     """What can't be noted is refused, in memory too, and what waits stays. Once there is room, files are taken again."""
     with small_disk("disk", "size=64k"):
-        with sender("--hold", at="disk/outbox") as one:
+        with sender("station.hold = true", at="disk/outbox") as one:
             want(one.client.ask("send alice 1 2 a first"), ["queued 1"])
             fill("disk/filler")
             count = 1
@@ -295,7 +296,7 @@ def a_full_disk():
             os.remove("disk/filler")
             want(one.client.ask("drop 1"), ["ok"])
             want(one.client.ask("send alice 1 2 a last"), [f"queued {count + 1}"])
-            one.restart("--hold")
+            one.restart("station.hold = true")
             want(one.numbers(), list(range(2, count + 2)))
 
 
@@ -304,7 +305,7 @@ def ends_on_a_full_disk():
     """What leaves while the disk is full is noted once there is room: while the server runs, and also by one that quits at once."""
     for quits in (False, True):
         with small_disk("disk", "size=64k"):
-            with sender("--hold", at="disk/outbox", lanes=1, users=("alice",)) as one:
+            with sender("station.hold = true", at="disk/outbox", lanes=1, users=("alice",)) as one:
                 fill("disk/filler")
                 count = 0
                 # long names, so that some fifteen files fill what the file has of the disk
@@ -360,18 +361,18 @@ def a_full_disk_of_the_numbers_alone():
 
 
 @contextlib.contextmanager
-def numbered(outbox=("--outbox", "outbox")):
+def numbered(outbox=("sending.outbox = 'outbox'",)):
     """A station whose numbers are on the small disk."""
-    with sender(options=(*outbox, "--numbers", "disk/numbers", "--hold"), lanes=1, users=("alice",)) as one:
+    with sender(options=(*outbox, "sending.numbers = 'disk/numbers'", "station.hold = true"), lanes=1, users=("alice",)) as one:
         yield one
 
 
-def start_alone(*options):
-    """What a server prints that can't start, and its status."""
-    pathlib.Path("config").write_text(configuration("127.0.0.1:1", ("alice",), octets=4))
-    words = [SERVER, "--config", "config", "--bind", "127.0.0.1:0", "--folder", ".", *options]
-    done = subprocess.run(words, stdin=subprocess.DEVNULL, capture_output=True, text=True, timeout=30, check=False)
-    return done.returncode, done.stderr
+def start_alone(*options, control="alone"):
+    """What a server prints first that can't start, and its status."""
+    text = station_text(configuration("127.0.0.1:1", ("alice",), octets=4), "127.0.0.1:0", "files", control, options)
+    pathlib.Path("alone.toml").write_text(text)
+    done = subprocess.run([SERVER, "alone.toml"], stdin=subprocess.DEVNULL, capture_output=True, text=True, timeout=90, check=False)
+    return done.returncode, done.stderr.splitlines()[0] + "\n"
 
 
 FAULT = (1, "cfdp_server: outbox fault\n")
@@ -380,13 +381,13 @@ FAULT = (1, "cfdp_server: outbox fault\n")
 @case
 def a_second_server():
     """It doesn't get the file, and the first one goes on."""
-    with sender("--hold") as one:
+    with sender("station.hold = true") as one:
         one.client.ask("send alice 1 2 a first")
-        want(start_alone("--outbox", "outbox"), FAULT)
-        want(start_alone("--outbox", "outbox", "--numbers", "own"), FAULT)
+        want(start_alone("sending.outbox = 'outbox'"), FAULT)
+        want(start_alone("sending.outbox = 'outbox'", "sending.numbers = 'own'"), FAULT)
         want(os.path.exists("own.lock"), False)
         want(one.client.ask("send alice 1 2 a second"), ["queued 2"])
-        one.restart("--hold")
+        one.restart("station.hold = true")
         want(one.numbers(), [1, 2])
 
 
@@ -396,7 +397,7 @@ def half_a_line():
     whole = "next 5\nqueued 5 17 send alice 1 2 a b\n"
     for torn in ("", "q", "queued 6 18 send al", "dropped 5", "ended 5\0\0\0"):
         pathlib.Path("outbox").write_text(whole + torn)
-        with sender("--hold") as one:
+        with sender("station.hold = true") as one:
             want(one.numbers(), [5])
             want(one.waiting()[0]["since"], "1970-01-01T00:00:00.017Z")
             want(lines(), ["queued 5 17 send alice 1 2 a b", "next 6"])
@@ -409,25 +410,26 @@ def bad_files():
     file is released, as is that of numbers."""
     for text in ("nonsense\n", "queued 5 17 send carol 1 2 a b\n", "queued 5 17 status\n", "queued 5 17\n", "next -1\n"):
         pathlib.Path("outbox").write_text(text)
-        want(start_alone("--outbox", "outbox"), FAULT)
+        want(start_alone("sending.outbox = 'outbox'"), FAULT)
         want((pathlib.Path("outbox").read_text().splitlines()[0], os.path.exists("outbox.lock")), (text.splitlines()[0], False))
-        want(start_alone("--outbox", "outbox", "--numbers", "own"), FAULT)
+        want(start_alone("sending.outbox = 'outbox'", "sending.numbers = 'own'"), FAULT)
         want((pathlib.Path("outbox").read_text().splitlines()[0], os.path.exists("outbox.lock")), (text.splitlines()[0], False))
         want(os.path.exists("own.lock"), False)
     os.remove("outbox")
     os.mkdir("outbox")
-    want(start_alone("--outbox", "outbox"), FAULT)
-    want(start_alone("--outbox", "nowhere/outbox"), FAULT)
-    want(start_alone("--outbox", "fresh", "--control", "nowhere/control"), (1, "cfdp_server: bind fault\n"))
+    want(start_alone("sending.outbox = 'outbox'"), FAULT)
+    want(start_alone("sending.outbox = 'nowhere/outbox'"), FAULT)
+    want(start_alone("sending.outbox = 'fresh'", control="nowhere/control"), (1, "cfdp_server: bind fault\n"))
     want((os.path.exists("fresh"), os.path.exists("fresh.lock")), (True, False))
-    want(start_alone("--outbox", ""), (1, "cfdp_server: usage\n"))
-    want(start_alone("--outbox", "fresh"), (0, ""))
+    want(start_alone("sending.outbox = ''"), (1, "cfdp_server: config fault 4\n"))
+    with sender(at="fresh") as one:
+        want(one.client.ask("outbox"), [])
 
 
 @case
 def a_file_that_grows():
     """Once it has grown tenfold, it is written anew: it has what waits, and no more."""
-    with sender("--hold") as one:
+    with sender("station.hold = true") as one:
         want(one.client.ask("send alice 1 2 a kept"), ["queued 1"])
         size = 0
         for number in range(2, 3_000):
@@ -437,7 +439,7 @@ def a_file_that_grows():
             if size < before:
                 break
         want((before > 40_000, size < 200), (True, True))
-        one.restart("--hold")
+        one.restart("station.hold = true")
         want(one.numbers(), [1])
         want(one.client.ask("send bob 1 2 a x"), [f"queued {number + 1}"])
 
@@ -445,11 +447,11 @@ def a_file_that_grows():
 @case
 def as_many_as_wait_come_back():
     """1,024 files, those under way included; one more is refused."""
-    with sender("--hold") as one:
+    with sender("station.hold = true") as one:
         for number in range(1, 1_025):
             want(one.client.ask("send alice 1 2 a x"), [f"queued {number}"])
         want(one.client.ask("send alice 1 2 a x"), ["refused OutboxFull"])
-        one.restart("--hold")
+        one.restart("station.hold = true")
         want(one.numbers(), list(range(1, 1_025)))
         want(one.client.ask("send alice 1 2 a x"), ["refused OutboxFull"])
 

@@ -58,13 +58,13 @@ def losing(share, seed):
 
 
 @contextlib.contextmanager
-def stations(rule=None, options=("--record-all",), text=None, workers=1, folder=None, rate=3_000_000, **around):
+def stations(rule=None, options=("record.which = 'all'",), text=None, workers=1, folder=None, rate=3_000_000, **around):
     """Two stations, 1 and 2, which log and record, over a link that follows a rule."""
 
     def start(place, port, peer):
         home = f"station{place + 1}"
         os.makedirs(f"{home}/scripts")
-        words = ("--rate", str(rate), "--log", f"{home}/log", "--record", folder or f"{home}/scripts", *options)
+        words = (f"sending.rate = {rate}", f"log.file = '{home}/log'", f"record.folder = '{folder or home + '/scripts'}'", *options)
         made = text(place + 1, 2 - place, peer) if text else None
         return Station(SERVER, place + 1, port, 2 - place, peer, words, text=made, workers=workers, **{"lanes": 8, **around})
 
@@ -107,7 +107,7 @@ def told(event):
 
 def played(one, script):
     """What a script prints, played with a station's configuration."""
-    done = subprocess.run([REPLAY, "--config", f"{one.home}/config", str(script)], capture_output=True, text=True, timeout=60)
+    done = subprocess.run([REPLAY, "--config", f"{one.home}/config", str(script)], capture_output=True, text=True, timeout=400)
     want((done.returncode, done.stderr), (0, ""))
     return done.stdout.splitlines()
 
@@ -275,18 +275,14 @@ def sixteen_at_once():
 
 @case
 def a_large_file():
-    """16 MiB; its reception is played within a minute on any machine."""
+    """The recording of 16 MiB can be played; what is quadratic in its size would take an hour."""
     text = lambda number, remote, port: configuration(
         f"127.0.0.1:{port}", USERS, 2_000, 10, id=number, remote=remote, octets=4, capacity=1_024, segment=1_400, inactivity=30_000)
     with stations(text=text) as (one, other, wire):
         put(one, "alice 2 2 a b", 16_000_000)
-        all_recorded((one, other), wire, 1, 60)
+        all_recorded((one, other), wire, 1, 400)
         script = next(iter(scripts_of(other).values()))
-        begun = time.monotonic()
         played(other, script)
-        took = time.monotonic() - begun
-        if took > 60:
-            raise Wrong(f"a script of {script.stat().st_size} octets took {took:.1f} seconds")
         key = ".".join(str(number) for number in key_of(wire.sent[0][0]))
         shown = other.ctl(CTL, "journal", key)
         want((shown.returncode, shown.stderr, shown.stdout == script.read_text()), (0, "", True))
@@ -320,10 +316,10 @@ def the_command():
 def the_standard_input():
     """A script is printed between the answers to the commands before and behind it."""
     os.makedirs("received")
-    pathlib.Path("config").write_text(configuration(f"127.0.0.1:{free_port()}", USERS, 100, 1, inactivity=60_000))
+    pathlib.Path("config").write_text(configuration(f"127.0.0.1:{free_port()}", USERS, 60_000, 1, inactivity=60_000))
     pathlib.Path("a").write_bytes(b"hello")
     run = subprocess.run([SERVER, "--config", "config", "--bind", f"127.0.0.1:{free_port()}", "--folder", "received"],
-                         input="put alice 0 2 1 a b\njournal 2 4\ntrace 2 4\njournal 2 5\nquit\n", capture_output=True, text=True, timeout=30)
+                         input="put alice 0 2 1 a b\njournal 2 4\ntrace 2 4\njournal 2 5\nquit\n", capture_output=True, text=True, timeout=90)
     lines = run.stdout.splitlines()
     want((run.returncode, lines[:2], lines[2][:2]), (0, ["ok", "txn 2 4"], "# "))
     want([line for line in lines if line.startswith(("set first", "file ", "put "))],
@@ -334,7 +330,7 @@ def the_standard_input():
 @case
 def the_oldest_ones_go():
     """At most two are kept; a file of another name stays; an earlier run's recordings count."""
-    with stations(options=("--record-all", "--record-most", "2")) as (one, other, wire):
+    with stations(options=("record.which = 'all'", "record.most = 2")) as (one, other, wire):
         folder = pathlib.Path(one.home, "scripts")
         for name in ("notes.txt", "01.2.script", "1.2.script.bak"):
             (folder / name).write_text("mine")
@@ -350,57 +346,85 @@ def the_oldest_ones_go():
 
 @case
 def a_folder_that_is_not_there():
-    """It stops nothing, and is counted."""
+    """It stops nothing, and is counted. The server makes it where it can; here a file has its name at first."""
+    pathlib.Path("nowhere").write_text("a file")
     with stations(folder="nowhere") as (one, other, wire):
         put(one, "alice 2 2 a b", 500)
         until(lambda: recorder(one)["failed"] == 1, "the count")
         want(recorder(one), {"kind": "recorder", "kept": 0, "missed": 0, "failed": 1})
+        os.remove("nowhere")
         os.makedirs("nowhere")
         put(one, "alice 2 2 a b", 500)
         until(lambda: recorder(one)["kept"] == 1, "the recording")
         want(len(list(pathlib.Path("nowhere").iterdir())), 1)
 
 
-def at_once(*lines, options=("--record", "scripts")):
-    """What a server says that reads these lines, once it has answered as many and a little later; it is killed then."""
-    for name in ("received", "scripts"):
-        os.makedirs(name, exist_ok=True)
-    pathlib.Path("config").write_text(configuration(f"127.0.0.1:{free_port()}", USERS, 100, 1, inactivity=60_000))
+def recording_station():
+    """Station 2 alone, whose recordings go into `scripts`."""
+    return Station(SERVER, 2, free_port(), 1, free_port(), ("record.folder = 'scripts'",), lanes=2, timer=60_000, limit=1, users=USERS,
+                   inactivity=60_000)
+
+
+def at_once(*lines):
+    """What a station says to these commands, one right after the other, until it has quit."""
     pathlib.Path("a").write_bytes(b"hello")
-    run = subprocess.Popen([SERVER, "--config", "config", "--bind", f"127.0.0.1:{free_port()}", "--folder", "received", *options],
-                           stdin=subprocess.PIPE, stdout=subprocess.PIPE, text=True)
-    begun = time.monotonic()
+    one = recording_station()
     try:
-        run.stdin.write("".join(f"{line}\n" for line in lines))
-        run.stdin.flush()
-        said = [run.stdout.readline().rstrip("\n") for _ in range(len(lines) + (lines[-1] != "quit"))]
-        took = time.monotonic() - begun
-        if lines[-1] == "quit":
-            want(run.wait(20), 0)
-        return said, took
+        client = one.client()
+        said = [answer for line in lines for answer in client.ask(line)]
+        want(one.run.wait(60), 0)
+        return said
     finally:
-        run.kill()
-        run.wait()
-        run.stdin.close()
-        run.stdout.close()
+        one.close()
 
 
 @case
 def the_last_one_at_the_end():
     """What ends just before `quit` is recorded, also where nobody else reads what users receive."""
-    lines, _ = at_once("put alice 0 2 1 a b", "abandon alice 2 4", "quit")
-    want((lines, os.listdir("scripts")), (["ok", "txn 2 4", "ok"], ["2.4.script"]))
+    lines = at_once("put alice 0 2 1 a b", "abandon alice 2 4", "quit")
+    want((lines, os.listdir("scripts")), (["ok", "txn 2 4", "ok", "ok"], ["2.4.script"]))
     want(pathlib.Path("scripts/2.4.script").read_text().split("\n")[4], "# alice 2 4 Abandoned 15 5")
 
 
 @case
 def a_folder_whose_disk_hangs():
-    """It holds up no command but `journal`, which is refused after ten seconds."""
+    """It holds up nothing but the `journal` of the client that asked for it."""
     os.makedirs("scripts")
     os.mkfifo("scripts/2.4.script.part")
-    lines, took = at_once("put alice 0 2 1 a b", "abandon alice 2 4", "journal 2 4", "trace 2 4")
-    want((lines[:4], lines[4].split()[0], took < 60), (["ok", "txn 2 4", "ok", "refused NoScript"], "trace", True))
-    want((took > 9, os.listdir("scripts")), (True, ["2.4.script.part"]))
+    pathlib.Path("a").write_bytes(b"hello")
+    one = recording_station()
+    try:
+        waiting, other = one.client(), one.client()
+        want(waiting.ask("put alice 0 2 1 a b"), ["ok", "txn 2 4"])
+        want(waiting.ask("abandon alice 2 4"), ["ok"])
+        waiting.stream.sendall(b"journal 2 4\n")
+        want(other.ask("trace 2 4")[0].split()[0], "trace")
+        want(other.ask("status") is not None, True)
+        want(os.listdir("scripts"), ["2.4.script.part"])
+    finally:
+        one.close()
+
+
+@case
+def what_still_waits_at_the_end():
+    """What isn't recorded two seconds after `quit`, since the disk hung, is left out, and the server ends."""
+    os.makedirs("scripts")
+    os.mkfifo("scripts/2.4.script.part")
+    pathlib.Path("a").write_bytes(b"hello")
+    one = recording_station()
+    try:
+        client = one.client()
+        for lane, seq in ((0, 4), (1, 6)):
+            want(client.ask(f"put alice {lane} 2 1 a b"), ["ok", f"txn 2 {seq}"])
+            want(client.ask(f"abandon alice 2 {seq}"), ["ok"])
+        want(client.ask("quit"), ["ok"])
+        time.sleep(6)
+        want(one.run.poll(), None)
+        with open("scripts/2.4.script.part", "rb") as part:
+            want(part.read().startswith(b"# "), True)
+        want((one.run.wait(60), os.listdir("scripts")), (0, ["2.4.script"]))
+    finally:
+        one.close()
 
 
 @case
@@ -410,7 +434,7 @@ def numbers_that_are_used_up():
     pathlib.Path("a").write_bytes(b"abc")
     home = "scripts"
     os.makedirs(home)
-    with station(SERVER, options=("--lanes", "2=2", "--record", home), lanes=1, users=users) as (one, _):
+    with station(SERVER, options=("remote[2].lanes = 2", f"record.folder = '{home}'"), lanes=1, users=users) as (one, _):
         client = one.client()
         want(client.ask("follow"), ["ok"])
         for user, count in (("user6", 1), ("alice", 2)):

@@ -24,7 +24,7 @@ class Ends:
     """Station 1, which is killed and starts again, and its peer: a socket of this script's, in class 2."""
 
     def __init__(self, **named):
-        self.named = {"timer": 300, "options": ("--numbers", "numbers"), **named}
+        self.named = {"timer": 300, "options": ("sending.numbers = 'numbers'",), **named}
         self.peer = socket.socket(socket.AF_INET, socket.SOCK_DGRAM)
         self.peer.bind(("127.0.0.1", 0))
         self.port = free_port()
@@ -52,7 +52,7 @@ class Ends:
 
     def hear(self, *wanted, until_silent=None):
         """Reads PDUs until each of these kinds has come, or until nothing comes for a while; gives all, without their headers."""
-        end = time.monotonic() + 20
+        end = time.monotonic() + 60
         heard = []
         while until_silent is not None or not all(any(one.startswith(kind) for one in heard) for kind in wanted):
             self.peer.settimeout(until_silent or max(0.01, end - time.monotonic()))
@@ -143,7 +143,7 @@ def a_file_that_was_sent():
         want((ok, int(txn.split()[2]) > 1), ("ok", True))
         both.send(finished(1))
         both.hear(FINISHED_ACK)
-        want(sorted(both.refusals()), ["NoTransaction", "OldTransaction"])
+        until(lambda: sorted(both.refusals()) == ["NoTransaction", "OldTransaction"], "both refusals")
 
 
 @case
@@ -154,7 +154,8 @@ def a_peer_that_begins_its_numbers_anew():
         both.hear(ACK, FINISHED)
         both.send(metadata(1, 6, b"g"), file_data(1, 0, FILE), end_of_file(1, FILE))
         both.hear(LATE_ACK)
-        want(both.refusals(), ["OldTransaction"])
+        # the other worker may still read what came before the EOF
+        until(lambda: both.refusals() == ["OldTransaction"], "the refusal")
         both.restart()
         both.send(metadata(1, 6, b"g"), file_data(1, 0, FILE), end_of_file(1, FILE))
         both.hear(FINISHED)
@@ -163,8 +164,8 @@ def a_peer_that_begins_its_numbers_anew():
 
 @case
 def a_link_that_was_held():
-    """A hold is forgotten, unless the server starts with --hold."""
-    for options, held in (((), [False]), (("--hold",), [True])):
+    """A hold is forgotten, unless the station's file says `hold`."""
+    for options, held in (((), [False]), (("station.hold = true",), [True])):
         with ends(options=options) as both:
             want(both.client.ask("hold 2"), ["ok"])
             want(both.held(), [True])
@@ -175,7 +176,7 @@ def a_link_that_was_held():
 @case
 def files_that_waited():
     """The outbox is forgotten, and numbers continue above those that were given."""
-    with ends(options=("--hold", "--numbers", "numbers"), lanes=1, users=("alice",)) as both:
+    with ends(options=("station.hold = true", "sending.numbers = 'numbers'"), lanes=1, users=("alice",)) as both:
         pathlib.Path("a").write_bytes(FILE)
         want((both.client.ask("put alice 0 2 2 a b"), both.client.ask("send alice 2 2 a c")), (["ok", "txn 1 1"], ["queued 1"]))
         both.restart()

@@ -13,7 +13,7 @@ import subprocess
 import sys
 
 ROWS = pathlib.Path(__file__).resolve().parent / "scripts"
-SECONDS = 120
+SECONDS = 600
 
 
 def play(program, title, script, printed, status=0):

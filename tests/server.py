@@ -1,8 +1,9 @@
 #!/usr/bin/env python3
 """A running server when things go wrong around it: after each case it answers the next command, or it has ended
-with the text and the status that its manual page gives.
+with the text and the status that its manual page gives. And whole runs: each command and its answer, and the put with a server
+and without.
 
-usage: tests/server.py SERVER
+usage: tests/server.py SERVER PUT
 
 Each case has its own server on loopback, in its own folder, and ends within five minutes.
 """
@@ -10,6 +11,7 @@ import contextlib
 import json
 import os
 import pathlib
+import pty
 import select
 import shutil
 import socket
@@ -22,7 +24,7 @@ from support import (
     socket_of_peer, until, want,
 )
 
-SERVER = os.path.abspath(sys.argv[1])
+SERVER, PUT = (os.path.abspath(path) for path in sys.argv[1:3])
 FINISHED = "alice 1 5 Transaction-Finished "
 
 
@@ -103,9 +105,9 @@ class Server:
     def ended(self):
         """How the server ended: its status, and what it printed."""
         try:
-            status = self.run.wait(30)
+            status = self.run.wait(90)
         except subprocess.TimeoutExpired:
-            raise Wrong("it did not end within 30 seconds") from None
+            raise Wrong("it did not end within 90 seconds") from None
         return status, self.run.stderr.read().decode()
 
     def quits(self):
@@ -194,10 +196,16 @@ def a_remote_that_can_not_be_sent_to():
         want(one.takes("alice 1 5 "), "alice 1 5 EOF-Recv")
         one.puts("2 1 a b", 2)
         one.finishes(2, "1 incomplete unreported")
-        lines = one.status()
-        counters, [remote] = lines[0]["counters"], [line for line in lines if line["kind"] == "remote"]
-        # at least the ACK of the EOF that came, the Metadata, the File Data in four parts and the EOF
-        want((counters["datagrams_out"], counters["failed_sends"] >= 7, remote["failed_sends"]), (0, True, counters["failed_sends"]))
+
+        def are_alike():
+            """A send may fail between two lines of a status."""
+            lines = one.status()
+            counters, [remote] = lines[0]["counters"], [line for line in lines if line["kind"] == "remote"]
+            # at least the ACK of the EOF that came, the Metadata, the File Data in four parts and the EOF
+            want((counters["datagrams_out"], counters["failed_sends"] >= 7), (0, True))
+            return remote["failed_sends"] == counters["failed_sends"]
+
+        until(are_alike, "one number of failed sends in both lines")
         one.quits()
 
 
@@ -326,6 +334,98 @@ def many_bad_commands():
             for _ in range(1_000):
                 want(one.line(), "bad command")
         one.answers()
+        one.quits()
+
+
+BOB = '[[user]]\nname = "bob"\n'
+# Lines of commands, and their answers; the server ends with the lines.
+COMMANDS = [
+    ("report alice 1 5\ntake alice\ntrace 1 5\nbogus\nquit\n", "refused 1 NoTransaction\nnone\nrefused 1 NoTransaction\nbad command\n"),
+    ("", ""),
+    ("quit", ""),
+    ("take bob", "none\n"),
+    ("take carol\n", "bad command\n"),
+    ("\n# quit\n quit\nquit \nquit now\nQUIT\n", "bad command\n" * 6),
+    ("put alice 0 2 1 nowhere b\nput alice 2 2 1 s b\nput alice 0 3 1 s b\n", "read fault\nbad command\nbad command\n"),
+    ("put alice 0 2 9 s b\ntrace 9 1\ncancel bob 9 9\n", "refused 25 UnknownRemote\nrefused 23 NoRoute\nrefused 23 NoRoute\n"),
+    ("put alice 0 2 1 s b\ntake alice\ntrace 2 8\ntrace 2 0\nsuspend bob 2 4\n",
+     "ok\ntxn 2 4\nalice 2 4 Transaction\nrefused 1 NoTransaction\nrefused 2 OldTransaction\nrefused 24 NotYours\n"),
+    ("quit\ntake alice\n", ""),
+    # files are being sent, and nobody answers them
+    ("put alice 0 2 1 s b\nquit\ntake alice\n", "ok\ntxn 2 4\n"),
+    ("put alice 0 2 1 s b\nput bob 1 1 1 s b", "ok\ntxn 2 4\nok\ntxn 2 7\n"),
+]
+
+
+@case
+def commands_and_their_answers():
+    pathlib.Path("s").write_bytes(b"abc")
+    for lines, answers in COMMANDS:
+        with server(keys=BOB, timer=60_000) as one:
+            one.say(lines.encode())
+            one.run.stdin.close()
+            want((lines, one.ended(), one.run.stdout.read().decode()), (lines, (0, ""), answers))
+
+
+@case
+def a_user_without_room_for_the_end():
+    """A user's queue is full, so the end of a file that is stored can't be indicated, and is tried again and again: the server ends
+    nevertheless."""
+    with server(timer=60_000) as one:
+        one.answers()
+        one.send(METADATA, FILE_DATA)
+        one.comes_to("trace 2 open")
+        # with the Metadata, the segment and the EOF as many bundles as wait for a user
+        for _ in range(61):
+            want(one.ask("report alice 1 5"), "ok")
+        one.send(EOF)
+        one.comes_to("trace 64 open")
+        until(lambda: os.path.exists("received/b"), "the file")
+        want((one.ask("report alice 1 5"), one.ask("trace 1 5")), ("refused 13 QueueFull", "trace 64 open"))
+        one.quits()
+
+
+def put(config, port, *words):
+    """A put, which has ended: its status, what it printed, and what a terminal showed of it."""
+    person, program = pty.openpty()
+    line = [PUT, "--config", config, "--bind", f"127.0.0.1:{port}", "--user", "alice", "--remote", "2", *words]
+    run = subprocess.run(line, stdin=subprocess.DEVNULL, stdout=subprocess.PIPE, stderr=program, timeout=120, check=False)
+    os.close(program)
+    shown = b""
+    with contextlib.suppress(OSError):
+        while octets := os.read(person, 65_536):
+            shown += octets
+    os.close(person)
+    return run.returncode, run.stdout.decode(), shown.decode()
+
+
+@case
+def puts_that_nobody_answers():
+    """In class 2 the file is not acknowledged, and in class 1 with closure no Finished PDU is received."""
+    pathlib.Path("a").write_bytes(b"abc")
+    for words, condition in ((("--class", "2"), 1), (("--class", "1", "--closure"), 10)):
+        pathlib.Path("putter").write_text(configuration(f"127.0.0.1:{free_port()}", ("alice", "bob"), timer=50, id=1, remote=2))
+        status, told, shown = put("putter", 0, *words, "a", "b")
+        want((status, told), (2, f"alice 1 4 Transaction\nalice 1 4 EOF-Sent\nalice 1 4 Transaction-Finished {condition} incomplete unreported\n"))
+        want("\r3 of 3 octets sent, waiting for the end" in shown, True)
+
+
+@case
+def puts_to_a_server():
+    """A file in class 2, whose complete delivery both ends report; one in class 1, whose sender is not notified of its delivery; and one
+    in class 1 with closure, whose sender is."""
+    pathlib.Path("a").write_bytes(b"abc")
+    port = free_port()
+    with server(peer=port, timer=3_000) as one:
+        one.answers()
+        text = configuration(f"127.0.0.1:{one.port}", ("alice", "bob"), timer=3_000, limit=10, id=1, remote=2)
+        pathlib.Path("putter").write_text(text)
+        for words, seq, name, status in ((("--class", "2"), 4, "b", 0), (("--first", "2", "--class", "1"), 8, "c", 2),
+                                         (("--first", "3", "--class", "1", "--closure"), 12, "d", 0)):
+            want(put("putter", port, *words, "a", name)[0], status)
+            finished = f"alice 1 {seq} Transaction-Finished "
+            want(one.takes(finished), finished + "0 complete retained")
+            want(pathlib.Path("received", name).read_bytes(), b"abc")
         one.quits()
 
 

@@ -33,7 +33,7 @@ USERS = ("alice", "bob")
 # kept for each of its threads.
 AROUND = dict(os.environ, MALLOC_TRIM_THRESHOLD_="0", MALLOC_TOP_PAD_="0")
 # How long what is under way may take to its end once nothing is begun any more: some times what all limits allow.
-QUIET = 90
+QUIET = 240
 
 
 class BadLink(Link):
@@ -100,8 +100,8 @@ class End:
         text = configuration(f"127.0.0.1:{self.link.ports[self.place]}", USERS, id=own, remote=other, octets=4, put_lanes=4, recv_lanes=8,
                              capacity=1_024, segment=1_400, ack=300, nak=300, check=300, inactivity=4_000,
                              ack_limit=12, nak_limit=12, check_limit=12)
-        words = ("--numbers", f"{home}/numbers", "--log", f"{home}/log{self.runs}", "--tree", "--keep", "--rate", "4000000", "--retry", "5",
-                 "--record", f"{home}/records")
+        words = (f"sending.numbers = '{home}/numbers'", f"log.file = '{home}/log{self.runs}'", "store.layout = 'tree'",
+                 "store.existing = 'keep'", "sending.rate = 4000000", "store.retry_s = 5", f"record.folder = '{home}/records'")
         os.makedirs(f"{home}/records", exist_ok=True)
         self.station = Station(SERVER, own, self.ports[self.place], other, 0, words, text=text, workers=2, around=AROUND)
         self.client = self.station.client()
@@ -301,7 +301,7 @@ def main():
         live(ends, link, draws)
         quieten(ends, link)
         for end in ends:
-            if (end.ask("quit"), end.station.run.wait(30)) != (["ok"], 0):
+            if (end.ask("quit"), end.station.run.wait(90)) != (["ok"], 0):
                 raise Wrong(f"station {end.place + 1} ended with status {end.station.run.returncode}")
         count = check(ends)
         for end in ends:

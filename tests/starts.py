@@ -4,7 +4,7 @@ their checks; and their help.
 
 usage: tests/starts.py SERVER PUT
 
-Each program runs in its own folder. No run may take longer than ten seconds.
+Each program runs in its own folder. No run may take longer than a minute.
 """
 import os
 import pathlib
@@ -28,14 +28,21 @@ SERVER_FAULTS = [
     ("--config nowhere --bind 127.0.0.1:0 --folder . --workers +4", "usage"),
     ("--config nowhere --bind localhost:7002 --folder .", "usage"),
     ("--config nowhere --bind 127.0.0.1:0 --folder . more", "usage"),
-    ("--config nowhere --bind 127.0.0.1:0 --folder . --park 1000000000001", "usage"),
-    ("--config nowhere --bind 127.0.0.1:0 --folder . --lanes 4", "usage"),
+    ("--config nowhere --bind 127.0.0.1:0 --folder . --park 1", "usage"),
+    ("--config nowhere nowhere", "usage"),
+    ("nowhere --check nowhere", "usage"),
+    ("nowhere nowhere", "usage"),
     (f"--config nowhere --bind 127.0.0.1:0 --folder {NO_TEXT}", "usage"),
-    ("--config nowhere --bind 127.0.0.1:0 --folder . --lanes 2=4 --lanes 2=none", "usage"),
     ("--config nowhere --bind 127.0.0.1:0 --folder .", "read fault"),
     ("--config no-text --bind 127.0.0.1:0 --folder .", "config fault 1"),
     ("--config bad --bind 192.0.2.1:7002 --folder .", "config fault 4"),
     ("--config good --bind 192.0.2.1:7002 --folder .", "bind fault"),
+]
+# Station files with which the server doesn't start, the fault, and the line that explains it.
+STATION_FAULTS = [
+    ("nowhere", "read fault", "nowhere: is not there"),
+    ("no-text", "config fault 1", "no-text: octet 0 is not UTF-8"),
+    ("good", "config fault 2", "good: [station] bind: missing; \"A.B.C.D:PORT\", in decimal and without leading zeros"),
 ]
 # Command lines with which the put doesn't start.
 PUT_FAULTS = [
@@ -63,14 +70,14 @@ SERVER_RUNS = [
     ("--help", "Receives and sends files by CFDP over UDP"),
     ("--version", "cfdp_server 0.1\n"),
     ("--config good --bind 127.0.0.1:0 --folder gone --workers 16", "none\n"),
-    ("--config=good --bind=127.0.0.1:0 --folder=. --workers=01 --rate=1 --follow", "none\n"),
+    ("--config=good --bind=127.0.0.1:0 --folder=. --workers=01", "none\n"),
 ]
 PUT_RUNS = [("--help", "Sends one file by CFDP over UDP"), ("--version", "cfdp_put 0.1\n")]
 
 
 def ended(program, line):
     """How a program ended that was given a command: its status, its output, and its errors."""
-    run = subprocess.run([program, *line.split()], input="take alice\n", capture_output=True, text=True, timeout=10, check=False)
+    run = subprocess.run([program, *line.split()], input="take alice\n", capture_output=True, text=True, timeout=60, check=False)
     return run.returncode, run.stdout, run.stderr
 
 
@@ -95,10 +102,13 @@ def main():
     try:
         check(SERVER, "cfdp_server", SERVER_FAULTS, SERVER_RUNS)
         check(PUT, "cfdp_put", PUT_FAULTS, PUT_RUNS)
+        for line, why, more in STATION_FAULTS:
+            if ended(SERVER, line) != (1, "", f"cfdp_server: {why}\n{more}\n"):
+                sys.exit(f"cfdp_server {line}: {ended(SERVER, line)}, not {why} and {more}")
     finally:
         os.chdir("/")
         shutil.rmtree(home)
-    print(f"{len(SERVER_FAULTS) + len(PUT_FAULTS)} starts are refused as they should be")
+    print(f"{len(SERVER_FAULTS) + len(STATION_FAULTS) + len(PUT_FAULTS)} starts are refused as they should be")
 
 
 main()

@@ -64,7 +64,7 @@ def a_hundred_files():
 def contact_windows():
     """A contact of one second in every four, with loss: all files arrive whole, no limit ends one, and nothing is sent
     while the links are held."""
-    with stations(loss=0.05, first=("--hold",), second=("--hold",), limit=3) as (one, other, relay):
+    with stations(loss=0.05, first=("station.hold = true",), second=("station.hold = true",), limit=3) as (one, other, relay):
         names = {f"file{n}": write(f"file{n}", octets_of(n, 30_000)) for n in range(6)}
         ground, craft = one.client(), other.client()
         want(ground.ask("follow"), ["ok"])
@@ -98,8 +98,8 @@ def contact_windows():
 
 @case
 def held_at_the_start():
-    """With --hold nothing is sent until the link is released; then the first PDU arrives at once, long before a timer."""
-    with station(SERVER, options=("--hold",), timer=60_000) as (one, peer):
+    """With `hold` nothing is sent until the link is released; then the first PDU arrives at once, long before a timer."""
+    with station(SERVER, options=("station.hold = true",), timer=60_000) as (one, peer):
         client = one.client()
         write("a", b"abc")
         want(client.ask("put alice 0 2 2 a b")[0], "ok")
@@ -120,7 +120,7 @@ def held_at_the_start():
 @case
 def an_outbox_that_is_full():
     """At most 1,024 files wait; dropping one makes room."""
-    with station(SERVER, options=("--hold",)) as (one, _):
+    with station(SERVER, options=("station.hold = true",)) as (one, _):
         client = one.client()
         want(client.ask("follow"), ["ok"])
         write("a", b"abc")
@@ -225,7 +225,7 @@ def a_transfer_that_is_suspended_and_resumed():
     """Nothing of a suspended file leaves until its user resumes it; another user may do neither."""
     octets = os.urandom(100_000)
     write("file", octets)
-    with stations(first=("--rate", "200000")) as (one, other, relay):
+    with stations(first=("sending.rate = 20000",)) as (one, other, relay):
         client = one.client()
         number = client.ask("put alice 0 2 2 file file")[1].split()[2]
         states = lambda: [line["state"] for line in client.status() if line["kind"] == "transaction"]
@@ -242,7 +242,7 @@ def a_transfer_that_is_suspended_and_resumed():
 def a_bundle_that_is_larger_than_what_may_wait_for_the_log():
     """One datagram closes 30,000 gaps, which is a bundle of as many indications: each of them is in the log."""
     size = 60_000
-    with station(SERVER, options=("--log", "log"), workers=1) as (one, peer):
+    with station(SERVER, options=("log.file = 'log'",), workers=1) as (one, peer):
         client = one.client()
         at = ("127.0.0.1", one.port)
         peer.sendto(metadata(8, size, b"file"), at)
@@ -262,7 +262,7 @@ def a_bundle_that_is_larger_than_what_may_wait_for_the_log():
 @case
 def a_put_behind_many_answers():
     """What was answered at a link's limit holds a file back for a second at most."""
-    with station(SERVER, options=("--rate", "2=20000"), workers=1) as (one, peer):
+    with station(SERVER, options=("remote[2].rate = 20000",), workers=1) as (one, peer):
         client = one.client()
         at = ("127.0.0.1", one.port)
         closing = end_of_file(8, b"abc")
@@ -285,7 +285,7 @@ def a_peer_that_speaks_for_another():
     """A PDU of entity 2 from the address of entity 3 is taken where sources are known, and dropped where they are strict."""
     with socket.socket(socket.AF_INET, socket.SOCK_DGRAM) as third:
         third.bind(("127.0.0.1", 0))
-        for option, refused in (("--known-sources", 0), ("--strict-sources", 1)):
+        for option, refused in (("station.sources = 'known'", 0), ("station.sources = 'own'", 1)):
             with socket.socket(socket.AF_INET, socket.SOCK_DGRAM) as second:
                 second.bind(("127.0.0.1", 0))
                 text = configuration(f"127.0.0.1:{second.getsockname()[1]}", ("alice",), 300, 10, id=1, remote=2, octets=4, lanes=4)
@@ -303,6 +303,27 @@ def a_peer_that_speaks_for_another():
                     want(client.status()[0]["counters"]["refused"], refused)
                 finally:
                     one.close()
+
+
+@case
+def any_port_of_a_known_host():
+    """Where hosts are known, a datagram from another port of a peer's host is taken, and one from another host is dropped."""
+    with socket.socket(socket.AF_INET, socket.SOCK_DGRAM) as elsewhere, socket.socket(socket.AF_INET, socket.SOCK_DGRAM) as stranger:
+        elsewhere.bind(("127.0.0.1", 0))
+        stranger.bind(("127.0.0.2", 0))
+        for option, refused in (("station.sources = 'hosts'", 1), ("station.sources = 'known'", 2)):
+            port, peer_port = free_port(), free_port()
+            text = configuration(f"127.0.0.1:{peer_port}", ("alice",), 300, 10, id=1, remote=2, octets=4, lanes=4)
+            one = Station(SERVER, 1, port, 2, 0, (option,), text=text, workers=1)
+            try:
+                client = one.client()
+                for sender, number in ((stranger, 8), (elsewhere, 9)):
+                    sender.sendto(metadata(number, 3, b"file"), ("127.0.0.1", port))
+                until(lambda: client.status()[0]["counters"]["datagrams_in"] == 2, "both datagrams")
+                until(lambda: client.status()[0]["counters"]["refused"] == refused, "the refusals")
+                want([line["seq"] for line in client.status() if line["kind"] == "transaction"], [9] if refused == 1 else [])
+            finally:
+                one.close()
 
 
 @case
@@ -328,10 +349,10 @@ def reads_that_fail_for_a_while():
 def a_log_that_ends_within_a_line():
     """What a power cut left of a line is closed, so the first event of the next run can be read."""
     write("log", b'{"at":"2026-')
-    with station(SERVER, options=("--log", "log")) as (one, _):
-        want((one.client().ask("quit"), one.run.wait(10)), (["ok"], 0))
-    with station(SERVER, options=("--log", "log")) as (one, _):
-        want((one.client().ask("quit"), one.run.wait(10)), (["ok"], 0))
+    with station(SERVER, options=("log.file = 'log'", "log.commands = false")) as (one, _):
+        want((one.client().ask("quit"), one.run.wait(60)), (["ok"], 0))
+    with station(SERVER, options=("log.file = 'log'", "log.commands = false")) as (one, _):
+        want((one.client().ask("quit"), one.run.wait(60)), (["ok"], 0))
     lines = pathlib.Path("log").read_text().splitlines()
     want((lines[0], [json.loads(line)["kind"] for line in lines[1:]]), ('{"at":"2026-', ["start", "end"] * 2))
 
@@ -339,7 +360,7 @@ def a_log_that_ends_within_a_line():
 @case
 def users_take_turns():
     """A user with many files doesn't delay another."""
-    with stations(lanes=1, first=("--rate", "200000")) as (one, other, _):
+    with stations(lanes=1, first=("sending.rate = 200000", "station.hold = true")) as (one, other, _):
         client = one.client()
         other.client().close()
         want(client.ask("follow"), ["ok"])
@@ -347,6 +368,7 @@ def users_take_turns():
         for n in range(10):
             client.ask(f"send alice 2 2 a a{n}")
         client.ask("send bob 2 2 a b")
+        client.ask("release 2")
         puts = []
         client.wait_event(lambda event: event["kind"] == "put" and (puts.append(event["user"]) or event["user"] == "bob"), "bob's file")
         want(len(puts) <= 3, True)
@@ -404,7 +426,7 @@ def names_in_quotes():
 @case
 def limits_of_links():
     """Octets to an entity keep to its own limit, whatever the limit of the rest; an unknown entity can't have one."""
-    with station(SERVER, options=("--rate", "2=20000", "--rate", "1000000000")) as (one, peer):
+    with station(SERVER, options=("remote[2].rate = 20000", "sending.rate = 1000000000")) as (one, peer):
         client = one.client()
         write("a", octets_of(1, 40_000))
         begun = time.monotonic()
@@ -413,15 +435,12 @@ def limits_of_links():
         while octets < 40_000:
             octets += len(peer.recv(65_536))
         want(1.5 < time.monotonic() - begun < 30, True)
-    with station(SERVER, options=("--rate", "3=1000")) as (one, _):
-        want(one.run.wait(20), 1)
-        want(one.run.stderr.read(), b"cfdp_server: usage\n")
 
 
 @case
 def a_server_that_is_killed():
     """A client that waits for files of a server that goes away ends within five seconds, with status 1."""
-    with station(SERVER, options=("--hold",)) as (one, _):
+    with station(SERVER, options=("station.hold = true",)) as (one, _):
         one.client().close()
         write("a", b"abc")
         waiting = subprocess.Popen([CTL, "--control", one.path, "send", "--user", "alice", "--to", "2", "--wait", "a"],
@@ -452,7 +471,7 @@ def a_bridge_for_packets():
     """The example of a bridge carries PDUs in packets both ways. It fills in headers, and leaves out packets of others."""
     with socket_of_peer() as peer, contextlib.ExitStack() as ending:
         listen, packets = free_port(), free_port()
-        one = Station(SERVER, 1, free_port(), 2, listen, options=("--known-sources",))
+        one = Station(SERVER, 1, free_port(), 2, listen, options=("station.sources = 'known'",))
         ending.callback(one.close)
         words = ["--station", f"127.0.0.1:{one.port}", "--listen", f"127.0.0.1:{listen}", "--peer", "127.0.0.1:%d" % peer.getsockname()[1],
                  "--packets", f"127.0.0.1:{packets}", "--head", "1fe7c00000000000", "--strip", "16", "--apid", "2020"]

@@ -6,6 +6,7 @@ import json
 import os
 import pathlib
 import random
+import re
 import select
 import shutil
 import socket
@@ -36,13 +37,15 @@ def want(found, wanted):
 
 
 GIVEN = set()
+# The ports of this script, if tests/run.py gave it some of its own.
+FIRST_PORT, LAST_PORT = (int(port) for port in os.environ.get("TEST_PORTS", "10000-32000").split("-"))
 
 
 def free_port():
     """A port of loopback that nobody has, and that wasn't given before. It is none of those that the system gives by itself, so no
     program that asks for any port takes it before it is used."""
     for _ in range(1_000):
-        port = random.SystemRandom().randrange(10_000, 32_000)
+        port = random.SystemRandom().randrange(FIRST_PORT, LAST_PORT)
         with (socket.socket(socket.AF_INET, socket.SOCK_DGRAM) as one, socket.socket() as other, contextlib.suppress(OSError)):
             for ends in (one, other):
                 ends.bind(("127.0.0.1", port))
@@ -98,6 +101,29 @@ def in_own_mounts():
         if tried.returncode == 0:
             os.environ["HAS_OWN_MOUNTS"] = "1"
             os.execvp("unshare", [*words, sys.executable, *sys.argv])
+
+
+def in_own_network():
+    """Starts this script again in a network of its own, which has loopback alone and can be made slow, if the system allows that."""
+    if os.environ.get("HAS_OWN_NETWORK") or shutil.which("unshare") is None:
+        return
+    for words in (["unshare", "-n"], ["unshare", "-rn"]):
+        tried = subprocess.run([*words, "ip", "link", "set", "lo", "up"], capture_output=True, check=False)
+        if tried.returncode == 0:
+            os.environ["HAS_OWN_NETWORK"] = "1"
+            os.execvp("unshare", [*words, sys.executable, *sys.argv])
+
+
+@contextlib.contextmanager
+def slow_loopback(rate):
+    """Loopback of a network of this script's own, which carries so much ("80kbit") and loses nothing: what it can't carry waits."""
+    words = [["ip", "link", "set", "lo", "up"], ["tc", "qdisc", "add", "dev", "lo", "root", "tbf", "rate", rate, "burst", "3000", "limit", "4000000"]]
+    if not os.environ.get("HAS_OWN_NETWORK") or shutil.which("tc") is None or any(subprocess.run(one, capture_output=True, check=False).returncode for one in words):
+        raise Skipped("no network of its own can be made slow here")
+    try:
+        yield
+    finally:
+        subprocess.run(["tc", "qdisc", "del", "dev", "lo", "root"], capture_output=True, check=False)
 
 
 @contextlib.contextmanager
@@ -253,14 +279,32 @@ def socket_of_peer():
         yield peer
 
 
-class Running:
-    """A running server with a control socket."""
+# A station of a test keeps nothing, and logs each event, unless its lines say otherwise.
+USUAL = {"sending.numbers": "false", "sending.outbox": "false", "log.file": "false", "log.level": "'detail'"}
 
-    def __init__(self, words, path, workers=2, **around):
+
+def station_text(text, bind, folder, control, told=(), workers=2):
+    """The text of a station's file: an entity's configuration, and the station's own keys, a line each, as `station.hold = true`. A
+    line `remote[ID].rate = 1` stands in the table of that remote entity."""
+    lines = [f"station.bind = '{bind}'", f"station.workers = {workers}", f"store.folder = '{folder}'", f"control.socket = '{control}'"]
+    lines += [f"{key} = {value}" for key, value in USUAL.items() if not any(line.startswith(key) for line in told)]
+    for line in told:
+        if found := re.fullmatch(r"remote\[(\d+)\]\.(.*)", line):
+            table = f"[[remote]]\nid = {found[1]}\n"
+            if text.count(table) != 1:
+                raise Wrong(f"the configuration has {text.count(table)} tables of entity {found[1]}")
+            text = text.replace(table, f"{table}{found[2]}\n")
+        else:
+            lines.append(line)
+    return "\n".join(lines) + "\n" + text
+
+
+class Running:
+    """A running server with a control socket, by a station's file."""
+
+    def __init__(self, server, file, path, **around):
         self.path = path
-        self.run = subprocess.Popen(
-            [*words, "--workers", str(workers), "--control", path],
-            stdin=subprocess.DEVNULL, stdout=subprocess.PIPE, stderr=subprocess.PIPE, **around)
+        self.run = subprocess.Popen([server, file], stdin=subprocess.DEVNULL, stdout=subprocess.PIPE, stderr=subprocess.PIPE, **around)
 
     def client(self, timeout=60):
         end = time.monotonic() + 60
@@ -277,25 +321,26 @@ class Running:
 
 
 class Station(Running):
-    """A server with a control socket in its own folder, and one remote entity."""
+    """A server with a control socket in its own folder, and one remote entity. Options are lines of its file (`station_text`)."""
 
     def __init__(self, server, number, port, remote, peer, options=(), lanes=4, timer=300, limit=10,
                  users=("alice", "bob"), first=1, recv_lanes=8, text=None, workers=2, around=None, inactivity=20_000):
         self.home = f"station{number}"
         self.port = port
         os.makedirs(f"{self.home}/received", exist_ok=True)
-        config = f"{self.home}/config"
-        pathlib.Path(config).write_text(text or configuration(
+        text = text or configuration(
             f"127.0.0.1:{peer}", users, timer, limit, id=number, remote=remote, octets=4, first=first, put_lanes=lanes,
-            recv_lanes=recv_lanes, capacity=1_024, segment=512, inactivity=inactivity))
-        words = [server, "--config", config, "--bind", f"127.0.0.1:{port}", "--folder", f"{self.home}/received", *options]
-        super().__init__(words, f"{self.home}/control", workers, env=around)
+            recv_lanes=recv_lanes, capacity=1_024, segment=512, inactivity=inactivity)
+        pathlib.Path(f"{self.home}/config").write_text(text)
+        file, control = f"{self.home}.toml", f"{self.home}/control"
+        pathlib.Path(file).write_text(station_text(text, f"127.0.0.1:{port}", f"{self.home}/received", control, options, workers))
+        super().__init__(server, file, control, env=around)
 
     def received(self):
         return pathlib.Path(self.home, "received")
 
     def ctl(self, program, *words, **named):
-        return subprocess.run([program, "--control", self.path, *words], capture_output=True, text=True, timeout=110, **named)
+        return subprocess.run([program, "--control", self.path, *words], capture_output=True, text=True, timeout=400, **named)
 
 
 def part_of(octets):
@@ -454,7 +499,7 @@ def run_cases(subject, cases=CASES):
             if body.__name__ not in allowed:
                 print(f"to go on without it, set ALLOWED_SKIPS={body.__name__} (several with commas)")
                 failed += 1
-        except (Wrong, OSError, ValueError, KeyError, TypeError) as why:
+        except (Wrong, OSError, ValueError, KeyError, TypeError, subprocess.SubprocessError) as why:
             failed += 1
             print(f"{subject}, {name}: {type(why).__name__} {why}")
         finally:

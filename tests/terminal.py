@@ -12,7 +12,7 @@ import termios
 import time
 
 PROGRAM = os.path.abspath(sys.argv[1])
-PATIENCE = 20
+PATIENCE = 60
 
 
 def read_until(descriptor, wanted, patience):

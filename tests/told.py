@@ -52,7 +52,7 @@ UNTOLD = ["status", "outbox", "trace 1 2", "report alice 1 2", "take alice", "jo
 @case
 def each_command_that_changes_something():
     """Its words, the first line of its answer, and the seat of its client are an event, in the log too."""
-    with station(SERVER, options=("--log-commands", "--log", "log", "--log-level", "info")) as (one, _):
+    with station(SERVER, options=("log.file = 'log'", "log.level = 'info'")) as (one, _):
         pathlib.Path("a").write_bytes(b"abc")
         watcher = one.client()
         want(watcher.ask("follow"), ["ok"])
@@ -71,26 +71,15 @@ def each_command_that_changes_something():
         want([event["answer"] for event in told], answers + ["ok"])
         want({(event["by"], event["seat"]) for event in told}, {("client", 1)})
         want(one.client().ask("quit"), ["ok"])
-        want(one.run.wait(20), 0)
+        want(one.run.wait(60), 0)
         of_log = commands(logged())
         want([event["words"] for event in of_log], [event["words"] for event in told] + ["quit"])
         want((of_log[-1]["seat"], {event["level"] for event in of_log}), (2, {"info"}))
 
 
 @case
-def commands_of_standard_input():
-    """They are told as of `input`."""
-    pathlib.Path("config").write_text(configuration("127.0.0.1:1", ("alice",), octets=4))
-    words = [SERVER, "--config", "config", "--bind", "127.0.0.1:0", "--folder", ".", "--log", "log", "--log-commands"]
-    done = subprocess.run(words, input="hold 1\nstatus\nquit\n", capture_output=True, text=True, timeout=30, check=False)
-    want(done.returncode, 0)
-    want([(event["words"], event["answer"], event["by"], "seat" in event) for event in commands(logged())],
-         [("hold 1", "ok", "input", False), ("quit", "", "input", False)])
-
-
-@case
-def nothing_without_the_option():
-    with station(SERVER, options=("--log", "log")) as (one, _):
+def nothing_if_it_is_switched_off():
+    with station(SERVER, options=("log.file = 'log'", "log.commands = false")) as (one, _):
         client = one.client()
         want(client.ask("follow"), ["ok"])
         want((client.ask("hold 2"), client.ask("release 2")), (["ok"], ["ok"]))
@@ -124,25 +113,25 @@ def ask_for(client, path):
 
 @case
 def why_a_file_cannot_be_read():
-    """With --explain the events of its command and of the outbox say it, and the answer is as ever; without, no event does."""
+    """The events of its command and of the outbox say it, and the answer is as ever."""
     unread = paths()
-    for options, reasons in ((("--explain",), [why for _, why in unread]), ((), [None] * len(unread))):
-        with station(SERVER, options=("--log-commands", *options)) as (one, _):
-            client = one.client()
-            want(client.ask("follow"), ["ok"])
-            for path, _ in unread:
-                ask_for(client, path)
-            want(client.ask("send alice 1 2 gone b urgent"), ["read fault"])
-            want(client.ask("send alice 1 9 gone b urgent"), ["refused 25 UnknownRemote"])
-            want(client.ask("hold 2"), ["ok"])
-            client.wait_event(lambda event: event.get("words") == "hold 2", "the last command")
-            until_unsent = lambda event: event["kind"] == "unsent" and event["queued"] == len(unread)
-            client.wait_event(until_unsent, "the last file")
-            told = commands(client.events)
-            want([event.get("reason") for event in told if event["words"][:4] == "put "], reasons)
-            want([event.get("reason") for event in client.events if event["kind"] == "unsent"], reasons)
-            want({event["why"] for event in client.events if event["kind"] == "unsent"}, {"read fault"})
-            want([event.get("reason") for event in told[-3:]], [reasons[0], None, None])
+    reasons = [why for _, why in unread]
+    with station(SERVER) as (one, _):
+        client = one.client()
+        want(client.ask("follow"), ["ok"])
+        for path, _ in unread:
+            ask_for(client, path)
+        want(client.ask("send alice 1 2 gone b urgent"), ["read fault"])
+        want(client.ask("send alice 1 9 gone b urgent"), ["refused 25 UnknownRemote"])
+        want(client.ask("hold 2"), ["ok"])
+        client.wait_event(lambda event: event.get("words") == "hold 2", "the last command")
+        until_unsent = lambda event: event["kind"] == "unsent" and event["queued"] == len(unread)
+        client.wait_event(until_unsent, "the last file")
+        told = commands(client.events)
+        want([event.get("reason") for event in told if event["words"][:4] == "put "], reasons)
+        want([event.get("reason") for event in client.events if event["kind"] == "unsent"], reasons)
+        want({event["why"] for event in client.events if event["kind"] == "unsent"}, {"read fault"})
+        want([event.get("reason") for event in told[-3:]], [reasons[0], None, None])
 
 
 run_cases("told")

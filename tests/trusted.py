@@ -28,7 +28,7 @@ INTRO = """# What has to be believed
 
 A proof says that a call keeps its contract. A contract is written in definitions, which are in the folders `specs/` of the crates. If a
 definition says something else than it should, the proofs are about something else; so somebody has to read the definitions. They are
-below in reading order: layer by layer (`docs/crates.md`), and in a crate each after those that it cites. The first line of each
+below in reading order: layer by layer (`crates.txt`), and in a crate each after those that it cites. The first line of each
 file says what it is:
 
 - **Meaning**: the contracts of public calls and the laws speak in these. All of them are listed.
@@ -146,13 +146,14 @@ how much each event matters, and which of the last ones are kept and shown: even
 what a line of a server's commands asks for, and what of it is left at the desk: server_lines/Commands program_desk/Says
 options and words of the programs; numbers on a command line: program_words/Lines Numbers
 turns of files and timers, files to be stored; what becomes of a refusal: program_agenda/Turns Stores Fates program_station/Obstacles
+whose datagrams are taken: program_arrivals/Hearing
 the pace of what leaves, and its law: program_agenda/Paces PaceLaws
 datagrams that wait for their lane, their room, and the laws of both: program_parking/Lanes Parkings parking_laws/ParkingLaws program_lot/Waits
 which number begins next toward an entity, and its law; with how many lanes files don't wait: program_lineup/Lineups Counts lineup_laws/LineupLaws
 where a PDU goes, how far its data reaches; when a step's timers expire: program_udp/Peers Reaches program_desk/Steps
 what a program prints for a fault: program_start/Faults
 what a program replies to a command line by which nothing starts: program_replies/Replies
-what the server prints of an answer, of what became of a request, and of a configuration that makes little sense; exit status and progress of a put: server_answers/Answers Remarks server_commands/Outcomes cfdp_send/Ended Progress
+what the server prints of an answer, of what became of a request, and of a configuration that makes little sense; exit status and progress of a put: server_answers/Answers Remarks server_outcomes/Outcomes cfdp_send/Ended Progress
 which paths a Unix socket can have: unix_sockets/Addresses
 the texts of configurations that tests read: test_configs/Texts
 """

@@ -53,18 +53,18 @@ def moment(text):
 
 @case
 def a_window_that_closes_by_itself():
-    """A link that is released for a second is open for that long, says until when, and is then held, with an event that says so."""
-    with station(SERVER, options=("--hold",)) as (one, _):
+    """A link that is released for five seconds is open for that long, says until when, and is then held, with an event that says so."""
+    with station(SERVER, options=("station.hold = true",)) as (one, _):
         client = one.client()
         want(client.ask("follow"), ["ok"])
         begun = time.time()
-        want(client.ask("release 2 1"), ["ok"])
+        want(client.ask("release 2 5"), ["ok"])
         line = remote(client)
         want((line["held"], "held_since" in line), (False, False))
-        want(begun + 0.5 < moment(line["open_until"]) < begun + 20, True)
+        want(begun + 4.5 < moment(line["open_until"]) < begun + 25, True)
         event = client.wait_event(lambda event: event["kind"] == "hold", "the end of the window")
         want((event["id"], event["planned"]), (2, True))
-        want(time.time() - begun > 0.9, True)
+        want(time.time() - begun > 4.9, True)
         line = remote(client)
         want((line["held"], "open_until" in line), (True, False))
         want([list(event) for event in of(client, "release")], [["at", "number", "kind", "id"]])
@@ -73,15 +73,15 @@ def a_window_that_closes_by_itself():
 @case
 def windows_that_are_planned_no_more():
     """A release without seconds opens the link for good, and a hold before the end is no planned one."""
-    with station(SERVER, options=("--hold",)) as (one, _):
+    with station(SERVER, options=("station.hold = true",)) as (one, _):
         client = one.client()
         want(client.ask("follow"), ["ok"])
-        want((client.ask("release 2 1"), client.ask("release 2")), (["ok"], ["ok"]))
+        want((client.ask("release 2 3"), client.ask("release 2")), (["ok"], ["ok"]))
         want("open_until" in remote(client), False)
-        time.sleep(1.5)
+        time.sleep(3.5)
         want(remote(client)["held"], False)
-        want((client.ask("release 2 1"), client.ask("hold 2")), (["ok"], ["ok"]))
-        time.sleep(1.5)
+        want((client.ask("release 2 3"), client.ask("hold 2")), (["ok"], ["ok"]))
+        time.sleep(3.5)
         want(remote(client)["held"], True)
         want([list(event) for event in of(client, "hold")], [["at", "number", "kind", "id"]])
         for words in ("release 2 0", "release 2 86401", "release 2 x", "release 2 1 1", "release all 1", "hold all 1"):
@@ -93,7 +93,7 @@ def windows_that_are_planned_no_more():
 def windows_with_transfers():
     """Files go in windows of a second until all are there, nothing is sent outside, and timers rest meanwhile: no limit of two seconds is
     reached."""
-    with stations(first=("--hold",), limit=7) as (one, other, relay):
+    with stations(first=("station.hold = true",), limit=7) as (one, other, relay):
         client = one.client()
         other.client().close()
         names = {f"file{n}": write(f"file{n}", 20_000, n) for n in range(3)}
@@ -106,7 +106,7 @@ def windows_with_transfers():
             count = len(of(client, "hold"))
             client.wait_event(lambda event: event["kind"] == "hold" and event not in of(client, "hold")[:count], "the end of a window")
             begun = time.monotonic()
-            time.sleep(2.5)
+            time.sleep(3.5)
             closed.append((begun, time.monotonic()))
             client.status()
             if len([event for event in client.events if event.get("name") == "Transaction-Finished"]) == len(names):
@@ -115,7 +115,7 @@ def windows_with_transfers():
         want([event for event in client.events if event.get("name") in ("Fault", "Abandoned")], [])
         for begin, end in closed:
             # what just left may still be on its way through the relay
-            want([when for when in relay.passed[0] if begin + 1 < when < end], [])
+            want([when for when in relay.passed[0] if begin + 2 < when < end], [])
 
 
 def two_links():
@@ -137,8 +137,8 @@ def all_links_at_once():
         want(client.ask("follow"), ["ok"])
         want(client.ask("hold 3"), ["ok"])
         want((client.ask("hold all"), client.ask("hold all"), held(client)), (["ok"], ["ok"], [True, True]))
-        want((client.ask("release 2 1"), client.ask("release all"), held(client)), (["ok"], ["ok"], [False, False]))
-        time.sleep(2)
+        want((client.ask("release 2 3"), client.ask("release all"), held(client)), (["ok"], ["ok"], [False, False]))
+        time.sleep(3.5)
         want(held(client), [False, False])
         want(([event["id"] for event in of(client, "hold")], [event["id"] for event in of(client, "release")]), ([3, 2], [2, 3]))
         want(client.ask("release 3 1"), ["ok"])
@@ -149,7 +149,7 @@ def all_links_at_once():
 @case
 def a_window_that_begins_anew():
     """A second `release` of an open link moves its end, and leaves other links alone."""
-    with station(SERVER, options=("--hold",), text=two_links()) as (one, _):
+    with station(SERVER, options=("station.hold = true",), text=two_links()) as (one, _):
         client = one.client()
         want((client.ask("release 2 30"), client.ask("release 3 600")), (["ok"], ["ok"]))
         first = [moment(line["open_until"]) for line in client.status() if line["kind"] == "remote"]
@@ -159,20 +159,31 @@ def a_window_that_begins_anew():
         want((then[0] > first[0] + 30, abs(then[1] - first[1]) < 0.5), (True, True))
 
 
+def is_held(run, remote):
+    """Whether the link to a remote entity is held, by a status of the standard output. The lines of remote entities are the last but
+    the note's."""
+    run.stdin.write(b"status\nnothing\n")
+    run.stdin.flush()
+    lines = list(iter(run.stdout.readline, b"bad command\n"))
+    return [line["held"] for line in map(json.loads, lines) if line["kind"] == "remote" and line["id"] == remote] == [True]
+
+
 @case
 def a_window_without_clients():
     """A window ends in time where commands come from the standard input, and nobody says anything more."""
     pathlib.Path("config").write_text(two_links())
     os.mkdir("received")
-    words = [SERVER, "--config", "config", "--bind", f"127.0.0.1:{free_port()}", "--folder", "received", "--hold", "--log", "log"]
+    words = [SERVER, "--config", "config", "--bind", f"127.0.0.1:{free_port()}", "--folder", "received"]
     run = subprocess.Popen(words, stdin=subprocess.PIPE, stdout=subprocess.PIPE, stderr=subprocess.PIPE)
     try:
-        run.stdin.write(b"release 2 1\n")
+        run.stdin.write(b"hold 2\nrelease 2 1\n")
         run.stdin.flush()
-        until(lambda: "planned" in pathlib.Path("log").read_text() if os.path.exists("log") else False, "the end of the window", 20)
+        want([run.stdout.readline() for _ in range(2)], [b"ok\n", b"ok\n"])
+        time.sleep(2)
+        until(lambda: is_held(run, 2), "the end of the window")
         run.stdin.write(b"quit\n")
         run.stdin.flush()
-        want((run.wait(20), run.stdout.read()), (0, b"ok\n"))
+        want((run.wait(60), run.stdout.read()), (0, b""))
     finally:
         run.kill()
         run.wait()
@@ -194,7 +205,7 @@ def rates_that_change():
         octets = remote(client)["octets_out"]
         want(5_000 < octets < 60_000, True)
         want((client.ask("rate 2 off"), client.ask("rate 1000000")), (["ok"], ["ok"]))
-        until(lambda: received(other) == names, "the file", 20)
+        until(lambda: received(other) == names, "the file")
         # the limit of all links without one of their own, and one that leaves nothing, until it is lifted
         for name, slow, fast in (("slower", "rate 20000", "rate off"), ("slowest", "rate 2 1", "rate 2 off")):
             begun = remote(client)["octets_out"]
@@ -203,7 +214,7 @@ def rates_that_change():
             time.sleep(2)
             want(remote(client)["octets_out"] - begun < 120_000, True)
             want(client.ask(fast), ["ok"])
-            until(lambda: received(other) == names, "the next file", 20)
+            until(lambda: received(other) == names, "the next file")
         want(client.ask("rate 3 1"), ["refused UnknownRemote"])
         for words in ("rate", "rate 0", "rate 2 0", "rate 2 1000000001", "rate 2 1 1", "rate on"):
             want((words, client.ask(words)), (words, ["bad command"]))
@@ -212,7 +223,7 @@ def rates_that_change():
 @case
 def urgent_files():
     """An urgent file goes before those of its user that wait, and another name is told to the receiver."""
-    with stations(first=("--hold",), lanes=1) as (one, other, _):
+    with stations(first=("station.hold = true",), lanes=1) as (one, other, _):
         client, peer = one.client(), other.client()
         want((client.ask("follow"), peer.ask("follow")), (["ok"], ["ok"]))
         for name in "abc":
@@ -234,7 +245,7 @@ def urgent_files():
 @case
 def what_is_refused_at_once():
     """With a word that asks for more a file is looked at before it waits; without one it is as it was."""
-    with station(SERVER, options=("--hold",)) as (one, _):
+    with station(SERVER, options=("station.hold = true",)) as (one, _):
         client = one.client()
         write("a", 10)
         os.truncate("a", 16_777_217)
@@ -285,14 +296,14 @@ def levels():
 
 @case
 def a_log_of_a_level():
-    """With --log-level the log has the events of this level and above, each with its level."""
-    with stations(second=("--log", "log", "--log-level", "info")) as (one, other, _):
+    """With a level the log has the events of this level and above, each with its level."""
+    with stations(second=("log.file = 'log'", "log.level = 'info'")) as (one, other, _):
         client, peer = one.client(), other.client()
         write("a", 5_000)
         want(client.ask("send alice 2 2 a a"), ["queued 1"])
         until(lambda: [line["state"] for line in peer.status() if line["kind"] == "transaction"] == ["ended"], "the end of the file")
         want(peer.ask("quit"), ["ok"])
-        other.run.wait(20)
+        other.run.wait(60)
         events = [json.loads(line) for line in pathlib.Path("log").read_text().splitlines()]
         # a busy machine may send something twice, which is refused
         want({"info"} <= {event["level"] for event in events} <= {"info", "warning"}, True)
@@ -303,7 +314,7 @@ def a_log_of_a_level():
 @case
 def a_log_that_turns_over():
     """A log that is moved away under load is opened anew by itself or by `reopen`, and no event is missing in the files together."""
-    with station(SERVER, options=("--log", "log")) as (one, _):
+    with station(SERVER, options=("log.file = 'log'", "log.commands = false")) as (one, _):
         client = one.client()
         turned = 0
         for number in range(60):
@@ -315,9 +326,9 @@ def a_log_that_turns_over():
                     want(client.ask("reopen"), ["ok"])
                     want(os.path.exists("log"), True)
                 else:
-                    until(lambda: os.path.exists("log"), "the new file", 10)
+                    until(lambda: os.path.exists("log"), "the new file")
         want(client.ask("quit"), ["ok"])
-        one.run.wait(20)
+        one.run.wait(60)
         numbers = [json.loads(line)["number"] for name in ("log.0", "log.1", "log.2", "log")
                    for line in pathlib.Path(name).read_text().splitlines()]
         want(numbers, list(range(1, 63)))
@@ -328,14 +339,13 @@ def a_log_that_turns_over():
 @case
 def a_socket_of_a_group():
     """The socket's file has the permissions that were asked for, and its owner's alone without a word."""
-    for options, mode in ((), 0o600), (("--control-mode", "0660"), 0o660), (("--control-mode", "0666"), 0o666):
+    for options, mode in ((), 0o600), (("control.mode = '0660'",), 0o660), (("control.mode = '0666'",), 0o666):
         with station(SERVER, options=options) as (one, _):
             one.client().close()
             want(stat.S_IMODE(os.stat(one.path).st_mode), mode)
     for word in ("660", "0644", "0777", ""):
-        done = subprocess.run([SERVER, "--config", "c", "--bind", "127.0.0.1:0", "--folder", ".", "--control-mode", word],
-                              stdin=subprocess.DEVNULL, capture_output=True, text=True, timeout=60, check=False)
-        want((word, done.returncode, done.stderr.splitlines()[0]), (word, 1, "cfdp_server: usage"))
+        with station(SERVER, options=(f"control.mode = '{word}'",)) as (one, _):
+            want((word, one.run.wait(60), one.run.stderr.readline()), (word, 1, b"cfdp_server: config fault 4\n"))
 
 
 def hold_as(path, user, group):
@@ -383,7 +393,7 @@ def two_users_of_a_group_and_a_third():
     os.chown(".", -1, 4242)
     os.chmod(".", 0o2755)
     asked = [(4001, 4242), (4002, 4242), (4003, 4003)]
-    with station(SERVER, options=("--control-mode", "0660")) as (one, _):
+    with station(SERVER, options=("control.mode = '0660'",)) as (one, _):
         one.client().close()
         want([hold_as(one.path, user, group) for user, group in asked], [0, 0, 3])
     with station(SERVER) as (one, _):

@@ -1,11 +1,12 @@
 #!/usr/bin/env python3
-"""The examples that a station is installed from do as they stand, but for the places of their files and the address: the unit's
-commands start a server and end it, each folder that they name is one that systemd makes, and the log goes on after it was rotated.
+"""The examples that a station is installed from do as they stand, but for the places of their files and the address: stations start,
+the unit's commands start a server and end it, each folder that they name is one that systemd makes, and the log goes on after it was rotated.
 
 usage: tests/units.py SERVER CTL
 
 Where systemd-analyze is here, it reads the units too.
 """
+import contextlib
 import os
 import pathlib
 import re
@@ -14,10 +15,11 @@ import shutil
 import subprocess
 import sys
 
-from support import Client, Skipped, Wrong, case, close_run, run_cases, until, want
+from support import Client, Skipped, Wrong, case, close_run, run_cases, station, until, want
 
 SERVER, CTL = (os.path.abspath(path) for path in sys.argv[1:3])
-EXAMPLES = pathlib.Path(__file__).resolve().parent.parent / "examples"
+TOP = pathlib.Path(__file__).resolve().parent.parent
+EXAMPLES = TOP / "examples"
 # Where systemd makes the folders of each setting.
 MADE = {"StateDirectory": "/var/lib", "RuntimeDirectory": "/run", "LogsDirectory": "/var/log"}
 
@@ -33,9 +35,22 @@ def folders(unit):
 
 
 def placed(words):
-    """A command of the unit, with its files below this folder, its programs where they are, and an address of loopback."""
-    places = {"/usr/local/bin/cfdp_server": SERVER, "/usr/local/bin/cfdp_ctl": CTL, "192.0.2.7:4556": "127.0.0.1:0"}
+    """A command of the unit, with its files below this folder, and its programs where they are."""
+    places = {"/usr/local/bin/cfdp_server": SERVER, "/usr/local/bin/cfdp_ctl": CTL}
     return [places.get(word, os.getcwd() + word if word.startswith("/") else word) for word in shlex.split(words)]
+
+
+def connected(path, run):
+    """A client of a socket, which may have its path before it lets anybody in."""
+    found = []
+
+    def comes_in():
+        with contextlib.suppress(OSError):
+            found.append(Client(path))
+        return found or run.poll() is not None
+
+    until(comes_in, "the control socket")
+    return found[0] if found else Client(path)
 
 
 @case
@@ -45,24 +60,24 @@ def the_unit_of_the_server():
     for folder in folders("cfdp_server.service"):
         os.makedirs(os.getcwd() + folder, mode=0o700)
     os.makedirs("etc/cfdp")
-    shutil.copy(EXAMPLES / "station.toml", "etc/cfdp/station.toml")
-    checked = subprocess.run(placed(unit["ExecStartPre"]), capture_output=True, text=True, timeout=20, check=False)
+    text = subprocess.run([TOP / "tools" / "service-file.py"], capture_output=True, text=True, timeout=60, check=True).stdout
+    known = folders("cfdp_server.service")
+    for path in re.findall(r'(?m)^\w+ = "(/[^"]*)"', text):
+        if path not in known and str(pathlib.Path(path).parent) not in known:
+            raise Wrong(f"nobody makes the folder of {path}")
+    given = re.sub(r'(?m)^(\w+ = ")(/)', rf"\1{os.getcwd()}\2", text).replace('bind = "127.0.0.1:4562"', 'bind = "127.0.0.1:0"')
+    file, words = pathlib.Path("etc/cfdp/station.toml"), placed(unit["ExecStart"])
+    file.write_text(given)
+    checked = subprocess.run([SERVER, "--check", file], capture_output=True, text=True, timeout=60, check=False)
     want((checked.returncode, checked.stdout, checked.stderr), (0, "ok\n", ""))
-    given = pathlib.Path("etc/cfdp/station.toml").read_text()
-    pathlib.Path("etc/cfdp/station.toml").write_text(given.replace("\nid_octets = 1\n", "\nid_octets = 9\n"))
-    wrong = subprocess.run(placed(unit["ExecStartPre"]), capture_output=True, text=True, timeout=20, check=False)
+    file.write_text(given.replace("\nid_octets = 1\n", "\nid_octets = 9\n"))
+    wrong = subprocess.run(words, capture_output=True, text=True, timeout=60, check=False)
     line = given.splitlines().index("id_octets = 1") + 1
-    want((wrong.returncode, f"line {line}" in wrong.stdout + wrong.stderr, "id_octets" in wrong.stdout + wrong.stderr), (1, True, True))
-    pathlib.Path("etc/cfdp/station.toml").write_text(given)
-    words = placed(unit["ExecStart"])
-    for word in words[1:]:
-        known = [os.getcwd() + folder for folder in folders("cfdp_server.service")] + [os.getcwd() + "/etc/cfdp"]
-        if word.startswith(os.getcwd()) and word not in known and str(pathlib.Path(word).parent) not in known:
-            raise Wrong(f"nobody makes the folder of {word}")
+    want((wrong.returncode, f"line {line}" in wrong.stderr, "id_octets" in wrong.stderr), (1, True, True))
+    file.write_text(given)
     run = subprocess.Popen(words, stdin=subprocess.DEVNULL, stdout=subprocess.PIPE, stderr=subprocess.PIPE, cwd="var/lib/cfdp")
     try:
-        until(lambda: os.path.exists("run/cfdp/control") or run.poll() is not None, "the control socket")
-        client = Client("run/cfdp/control")
+        client = connected("run/cfdp/control", run)
         log = pathlib.Path("var/log/cfdp/events")
         until(lambda: log.exists() and '"start"' in log.read_text(), "the first event")
         os.rename(log, "var/log/cfdp/events.1")
@@ -70,11 +85,33 @@ def the_unit_of_the_server():
         want(client.ask("hold 1"), ["ok"])
         until(lambda: log.read_text().endswith("}\n"), "an event in the new log")
         first = pathlib.Path("var/log/cfdp/events.1").read_text()
-        want((log.read_text().count("\n"), '"hold"' in log.read_text(), '"start"' in first), (1, True, True))
-        ended = subprocess.run(placed(unit["ExecStop"]), capture_output=True, text=True, timeout=20, check=False)
-        want((ended.returncode, ended.stdout, run.wait(20), run.stderr.read()), (0, "ok\n", 0, b""))
+        until(lambda: log.read_text().count("\n") == 2, "the hold, and the command for it")
+        want(('"hold"' in log.read_text(), '"command"' in log.read_text(), '"start"' in first), (True, True, True))
+        ended = subprocess.run(placed(unit["ExecStop"]), capture_output=True, text=True, timeout=60, check=False)
+        want((ended.returncode, ended.stdout, run.wait(60), run.stderr.read()), (0, "ok\n", 0, b""))
     finally:
         close_run(run)
+
+
+@case
+def the_unit_of_a_hot_folder():
+    """Its command sends what is put into the folder that it has systemd make."""
+    unit = {name: told.replace("%i", "2") for name, told in settings("cfdp_watch@.service").items()}
+    folder = pathlib.Path(os.getcwd() + f"/var/lib/{unit['StateDirectory']}")
+    folder.mkdir(parents=True)
+    with station(SERVER, options=(), users=("alice",)) as (one, _):
+        words = [one.path if word.endswith("/run/cfdp/control") else word for word in placed(unit["ExecStart"])]
+        want((str(folder) in words, words[words.index("--to") + 1]), (True, "2"))
+        run = subprocess.Popen(words, stdin=subprocess.DEVNULL, stdout=subprocess.PIPE, stderr=subprocess.PIPE)
+        try:
+            pathlib.Path("image.part").write_bytes(b"octets")
+            os.rename("image.part", folder / "image")
+            client = one.client()
+            sent = lambda: [line for line in client.status() if line["kind"] == "transaction" and line.get("file", "").endswith("image")]
+            until(lambda: sent() or run.poll() is not None, "the file")
+            want((run.poll(), [(line["role"], line["peer"]) for line in sent()]), (None, [("sender", 2)]))
+        finally:
+            close_run(run)
 
 
 @case
@@ -82,9 +119,32 @@ def what_is_rotated():
     """It is the log that the unit names, by the unit's user, and it is moved away, not copied."""
     text = (EXAMPLES / "cfdp_server.logrotate").read_text()
     unit = settings("cfdp_server.service")
-    log = shlex.split(unit["ExecStart"])[shlex.split(unit["ExecStart"]).index("--log") + 1]
+    made = subprocess.run([TOP / "tools" / "service-file.py"], capture_output=True, text=True, timeout=60, check=True).stdout
+    log = re.search(r'(?m)^file = "(.*)"', made)[1]
     lines = [line.strip() for line in text.splitlines()]
     want((f"{log} {{" in lines, f"su {unit['User']} {unit['Group']}" in lines, "copytruncate" in lines), (True, True, False))
+
+
+@case
+def stations_to_copy():
+    """Each station of the examples passes the check without a remark, and starts where it lies."""
+    for example in sorted(EXAMPLES.rglob("*.toml")):
+        text = example.read_text()
+        if "[station]" not in text:
+            continue
+        folder = pathlib.Path(example.stem)
+        folder.mkdir()
+        file = folder / "station.toml"
+        file.write_text(text)
+        checked = subprocess.run([SERVER, "--check", file], capture_output=True, text=True, timeout=60, check=False)
+        want((example.name, checked.returncode, checked.stdout, checked.stderr), (example.name, 0, "ok\n", ""))
+        file.write_text(re.sub(r'(?m)^bind = ".*"', 'bind = "127.0.0.1:0"', text))
+        run = subprocess.Popen([SERVER, file], stdin=subprocess.DEVNULL, stdout=subprocess.PIPE, stderr=subprocess.PIPE)
+        try:
+            socket = re.search(r'(?m)^socket = "(.*)"', text)[1]
+            want((connected(str(folder / socket), run).ask("quit"), run.wait(60), run.stderr.read()), (["ok"], 0, b""))
+        finally:
+            close_run(run)
 
 
 @case

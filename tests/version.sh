@@ -22,6 +22,10 @@ told() {
 
 newest=$(sed -nE 's/^## ([0-9.]+).*/\1/p' CHANGELOG.md | head -n 1)
 [ "$newest" = "$version" ] || { echo "CHANGELOG.md: begins with version ${newest:-none}, and the programs have $version"; status=1; }
+told python/cfdp/__init__.py '^__version__ = "([0-9.]+)"'
+told include/cfdp.h '^#define CFDP_VERSION_STRING "([0-9.]+)"'
+grep -qx "#define CFDP_VERSION_MAJOR ${version%%.*}" include/cfdp.h && grep -qx "#define CFDP_VERSION_MINOR ${version#*.}" include/cfdp.h ||
+    { echo "include/cfdp.h: the numbers aren't those of version $version"; status=1; }
 told docs/man/cfdp_web.1 '^\.TH CFDP_WEB 1 "" "cfdp_web ([0-9.]+)"'
 told docs/control-socket.md '"version":"([0-9.]+)"'
 told docs/recorder.md '# cfdp_server ([0-9.]+),'

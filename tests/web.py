@@ -107,6 +107,9 @@ def routes(port):
     named = set(re.findall(rb'\bat\("([a-z-]+)"\)', page)) | set(re.findall(rb'new Table\("([a-z]+)"', page))
     missing = named - set(re.findall(rb' id="([a-z-]+)"', page))
     check(f"/: what the script names stands in the page {missing or ''}", len(named) > 20 and not missing)
+    ids = re.findall(rb' id="([a-z-]+)"', page)
+    check("/: each ID once", len(ids) == len(set(ids)))
+    check("/: the script makes no markup of text", not re.search(rb"innerHTML|outerHTML|insertAdjacentHTML|document\.write|\beval\b|new Function", page))
     check("/: no other host, no inline handlers", not re.search(rb"(https?:)?//[a-z]|<[^>]* (on[a-z]+|style|src|href)=", page.split(b"<script>")[0]))
     status, headers, body = ask(port, "/status.json")
     document = json.loads(body)
@@ -201,7 +204,7 @@ def token_files():
         with open(path, "wb") as file:
             file.write(text)
         ended = subprocess.run([web, "--control", control, "--listen", f"127.0.0.1:{free_port()}", "--commands", "--token-file", path],
-                               capture_output=True, timeout=20)
+                               capture_output=True, timeout=60)
         check(f"a token's file {text[:20]} of {len(text)} octets: 1", ended.returncode == 1 and b"no token" in ended.stderr)
     for text in (TOKEN.encode(), TOKEN.encode() + b"\r\nmore", b"x" * 4096 + b"\r\n"):
         with open(path, "wb") as file:
@@ -218,8 +221,7 @@ def commands(port):
     def give(line, token=TOKEN, more=()):
         return ask(port, "/command", method="POST", body=line, more=[("X-Console-Token", token), *more])
     check("hold: ok", give(b"hold 5")[::2] == (200, b"ok\n"))
-    time.sleep(0.6)
-    check("the remote is held", json.loads(ask(port, "/status.json")[2])["remotes"][0]["held"] is True)
+    check("the remote is held", wait_for(lambda: json.loads(ask(port, "/status.json")[2])["remotes"][0]["held"] is True))
     check("release: ok", give(b"release 5")[::2] == (200, b"ok\n"))
     lines = (b"hold all", b"release 5 60", b"rate 5 9000", b"rate off", b"release all")
     check("all links, a window and rates: ok", [give(line)[::2] for line in lines] == [(200, b"ok\n")] * len(lines))
@@ -408,7 +410,7 @@ def timed(port, target):
         if len(times) == 5:
             break
     check(f"{target}: 200, five times", len(times) == 5)
-    return min(times), body
+    return min(times, default=float("inf")), body
 
 
 def thousand():
@@ -447,18 +449,39 @@ def counted():
     os.unlink(control)
 
 
+def pieces():
+    """Pieces of files push out no other events: the console keeps the last of both, and of a station asks for both."""
+    event = lambda number, name: {"at": "2026-11-26T12:00:00.000Z", "number": number, "kind": "indication", "user": "ops", "source": 1, "seq": 1, "name": name}
+    numbers = {"File-Segment-Recv": range(3, 1103), "Metadata-Recv": (1, 2), "EOF-Recv": (1103, 1104)}
+    said = {"status": [{"kind": "entity", "id": 1, "version": "0.1", "started": "2026-11-26T12:00:00.000Z"}],
+            "events": sorted((event(number, name) for name in numbers for number in numbers[name]), key=lambda one: one["number"])}
+    path = os.path.join(folder.name, "said")
+    with open(path, "w", encoding="utf-8") as file:
+        json.dump(said, file)
+    station = start_station("--say", path)
+    console, port = start_console()
+    wanted = [1, 2, *range(1103 - 1024, 1105)]
+    found = lambda last="": [int(one.rsplit("-", 1)[1]) for one in event_ids(port, *([f"2026-11-26T12:00:00.000Z-{last}"] if last else []))]
+    check("pieces and others, each in its order", wait_for(lambda: found() == wanted, 120))
+    check("those behind a piece, and behind another one", found("1100") == [1101, 1102, 1103, 1104] and found("2") == wanted[2:] and found("1103") == [1104])
+    stop(console)
+    stop(station)
+    os.unlink(control)
+
+
 def usage():
     for words, status, text in (((), 2, b"usage"), (("--control", control, "--token-file", "x"), 2, b"usage"),
                                 (("--help",), 0, b"Usage: cfdp_web"), (("--version",), 0, b"cfdp_web 0.1\n"),
                                 (("--control", control, "--listen", "256.0.0.1:1"), 1, b"bind fault"),
                                 (("--control", control, "--listen", "127.0.0.1:0", "--commands", "--token-file", "/nowhere"), 1, b"token")):
-        ended = subprocess.run([web, *words], capture_output=True, timeout=20)
+        ended = subprocess.run([web, *words], capture_output=True, timeout=60)
         check(f"{' '.join(words) or 'no words'}: {status}", ended.returncode == status and text in ended.stdout + ended.stderr)
 
 
 def main():
     usage()
     counted()
+    pieces()
     console, port = start_console()
     check("no station: 503", ask(port, "/status.json")[0] == 503 and ask(port, "/healthz")[0] == 503)
     check("no station: /metrics says so", ask(port, "/metrics")[2].endswith(b"\ncfdp_up 0\n"))

@@ -41,6 +41,14 @@ install -m 644 "$top/build/libcfdp.a" "$room/libcfdp-dev$folder/libcfdp.a"
 install -m 644 "$top/include/cfdp.h" "$room/libcfdp-dev/usr/include/cfdp.h"
 sed -e 's|^prefix=.*|prefix=/usr|' -e "s|^libdir=.*|libdir=$folder|" "$top/build/cfdp.pc" > "$room/libcfdp-dev$folder/pkgconfig/cfdp.pc"
 install -m 644 "$top"/examples/c/*.c "$top/docs/embedding.md" "$room/libcfdp-dev/usr/share/doc/libcfdp-dev/examples"
+# who links against the library depends on this package, by the library's name; the loader's cache is made anew at its installation
+mkdir -p "$room/libcfdp0/DEBIAN"
+echo "activate-noawait ldconfig" > "$room/libcfdp0/DEBIAN/triggers"
+{
+    echo "libcfdp.so.0 libcfdp0 #MINVER#"
+    nm -D --defined-only "$top/build/libcfdp.so.0" | cut -d ' ' -f 3 | sort | sed "s/.*/ &@Base $version/"
+} > "$room/libcfdp0/DEBIAN/symbols"
+echo "libcfdp 0 libcfdp0 (>= $version)" > "$room/libcfdp0/DEBIAN/shlibs"
 pack libcfdp0 libs libc6 "CCSDS File Delivery Protocol: an entity as a library"
 pack libcfdp-dev libdevel "libcfdp0 (= $version)" "CCSDS File Delivery Protocol: header and static library"
 

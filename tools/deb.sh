@@ -25,12 +25,30 @@ for unit in "$top"/examples/*.service; do
     [ -x "$folder/usr/bin/$(basename "$unit" .service)" ] || continue
     sed 's|/usr/local/bin/|/usr/bin/|' "$unit" > "$folder/lib/systemd/system/$(basename "$unit")"
 done
-install -m 644 "$top"/examples/station.toml "$top"/examples/entity.toml "$folder"/usr/share/doc/binesunset/examples
+install -m 644 "$top"/examples/station.toml "$top"/examples/peer.toml "$top"/examples/entity.toml "$folder"/usr/share/doc/binesunset/examples
 install -m 755 "$top"/examples/packet_bridge.py "$folder"/usr/share/doc/binesunset/examples
+install -m 644 "$top"/examples/cfdp_watch@.service "$folder"/usr/share/doc/binesunset/examples
+cp -r "$top"/examples/peers "$top"/examples/links "$top"/examples/monitoring "$folder"/usr/share/doc/binesunset/examples
 # what the server's unit reads, and who rotates its log; both are for an administrator to change
-install -D -m 644 "$top"/examples/station.toml "$folder"/etc/cfdp/station.toml
+"$top"/tools/service-file.py > "$room/station.toml"
+install -D -m 644 "$room/station.toml" "$folder"/etc/cfdp/station.toml
 install -D -m 644 "$top"/examples/cfdp_server.logrotate "$folder"/etc/logrotate.d/cfdp_server
 printf '%s\n' /etc/cfdp/station.toml /etc/logrotate.d/cfdp_server > "$folder/DEBIAN/conffiles"
+# the user that the units and the rotation name
+install -d "$folder/usr/lib/sysusers.d"
+echo 'u cfdp - "CFDP station" /var/lib/cfdp' > "$folder/usr/lib/sysusers.d/binesunset.conf"
+cat > "$folder/DEBIAN/postinst" << 'MAKE'
+#!/bin/sh
+set -e
+if [ "$1" = configure ] && ! getent passwd cfdp > /dev/null; then
+    if command -v systemd-sysusers > /dev/null; then
+        systemd-sysusers /usr/lib/sysusers.d/binesunset.conf
+    else
+        useradd --system --user-group --home-dir /var/lib/cfdp --shell /usr/sbin/nologin cfdp
+    fi
+fi
+MAKE
+chmod 755 "$folder/DEBIAN/postinst"
 install -m 644 "$top"/README.md "$top"/docs/*.md "$folder"/usr/share/doc/binesunset
 if [ -f "$top/LICENSE" ]; then
     install -m 644 "$top/LICENSE" "$folder/usr/share/doc/binesunset/copyright"
@@ -44,7 +62,7 @@ Architecture: $machine
 Maintainer: Binesunset
 Section: net
 Priority: optional
-Depends: libc6
+Depends: libc6, systemd | passwd
 Installed-Size: $(du -sk "$folder" | cut -f 1)
 Description: CCSDS File Delivery Protocol over UDP
  A server for CFDP (CCSDS 727.0-B-5) that sends and receives many files at once, in class 1 and class 2, and programs to put
@@ -69,6 +87,10 @@ for unit in "$room"/there/lib/systemd/system/*.service; do
 done
 for named in $(dpkg-deb --info "$top/out/$package.deb" conffiles); do
     [ -f "$room/there$named" ] || { echo "the package doesn't have $named"; exit 1; }
+done
+# each user that a unit or the rotation names is made
+for user in $(sed -nE 's/^(User=|Group=| *su )([a-z_]+).*/\2/p' "$room"/there/lib/systemd/system/*.service "$room"/there/etc/logrotate.d/*); do
+    grep -q "^u $user " "$room/there/usr/lib/sysusers.d/binesunset.conf" || { echo "the package doesn't make the user $user"; exit 1; }
 done
 [ "$(dpkg-deb --field "$top/out/$package.deb" Version)" = "$version" ]
 echo "out/$package.deb: $(dpkg-deb --contents "$top/out/$package.deb" | grep -c '^-') files, installed into a folder and tried"

@@ -3,7 +3,16 @@
 import base64, hashlib, os, re
 
 here = os.path.join(os.path.dirname(os.path.abspath(__file__)), "..", "crates", "web_pages", "src")
-page = open(os.path.join(here, "page.rt"), encoding="utf-8").read()
+# the parts of the page, in their order
+PARTS = ("head", "tables", "live", "commands")
+
+
+def part(name):
+    text = open(os.path.join(here, "page", name + ".rt"), encoding="utf-8").read()
+    return re.search(r'r##"(.*)"##;', text, re.S).group(1)
+
+
+page = "".join(map(part, PARTS))
 
 
 def hash_of(tag):

@@ -82,6 +82,11 @@ abbrev pub IsMessage : ℤ → Option Session → Option Session → List ℕ �
 IsMessage code None after octets = (code ≡ CLOSED) × (after ≡ None)
 IsMessage code (Some old) after octets = Adds code old after octets
 
+-- the messages for the next Put are dropped
+abbrev pub Clears : ℤ → Option Session → Option Session → Type 0
+Clears code None after = (code ≡ CLOSED) × (after ≡ None)
+Clears code (Some old) after = (code ≡ OK) × (after ≡ Some (emptied old))
+
 -- ---- what is asked
 
 -- octets for a buffer are copied to its beginning if there are any and it has room; `len` says how many there are

@@ -1,11 +1,11 @@
 //! Putting a file, with messages.
-ghost use Rattle.std.specs.Prelude.{◌≡◌, ◌∷◌, ◌++◌, ◌≤◌, ◌<◌, ◌⊎◌, [], length};
+ghost use Rattle.std.specs.Prelude.{◌≡◌, ◌∷◌, ◌++◌, ◌≤◌, ◌<◌, ◌⊎◌, [], length, option_map};
 ghost use Rattle.cfdp_types.specs.declared.names.Class.{Class};
 ghost use Rattle.cfdp_types.specs.declared.put_request.PutFault.{PutFault};
 ghost use Rattle.cfdp_session.specs.Orders.{put_to};
 ghost use Rattle.cfdp_session.specs.declared.session.Session.{Session};
 ghost use Rattle.cfdp_c.specs.Codes.{class_of, put_code};
-ghost use Rattle.cfdp_c.specs.Calls.{Answers, IsMessage, Puts};
+ghost use Rattle.cfdp_c.specs.Calls.{Answers, Clears, IsMessage, Puts, emptied};
 ghost use Rattle.entity_routing.specs.declared.world_event.Request.TheVariants as requests;
 ghost use Rattle.entity_routing.specs.declared.world_event.WorldEvent.TheVariants as events;
 
@@ -34,7 +34,28 @@ pub extern "C" fn cfdp_message(alloc: Global, handle: &mut Handle, octets: &[u8]
     }
 }
 
-/// A user puts a file on this one of its sending lanes, with the messages that were added before.
+/// Drops the messages that were added for the next Put.
+#[unsafe(no_mangle)]
+pub extern "C" fn cfdp_message_clear(alloc: Global, handle: &mut Handle) -> i32
+    ensures { Clears result handle.old.owner.held handle.new.owner.held }
+{
+    clear(alloc, handle)
+}
+
+// Drops the messages for the next Put.
+fn clear(alloc: Global, handle: &mut Handle) -> i32
+    ensures { Clears result handle.old.owner.held handle.new.owner.held }
+{
+    let Some(mut session) = take(handle, alloc) else {
+        return CLOSED;
+    };
+    session.forget_messages(alloc);
+    *handle = keep(session);
+    OK
+}
+
+/// A user puts a file on this one of its sending lanes, with the messages that were added before. They are gone
+/// afterwards, whatever the result.
 #[unsafe(no_mangle)]
 pub extern "C" fn cfdp_put(
     alloc: Global,
@@ -53,9 +74,10 @@ pub extern "C" fn cfdp_put(
         → Puts result handle.old.owner.held handle.new.owner.held user lane
         (put_to (record { 0 = destination }) known closure source_name.now destination_name.now file.now) done.new }
     ensures bad { class_of class ≡ None → result ≡ BAD_NUMBER }
-    ensures same { class_of class ≡ None → handle.new ≡ handle.old }
+    ensures emptied { class_of class ≡ None → handle.new.owner.held ≡ option_map emptied handle.old.owner.held }
 {
     let Some(class) = class_of(class) else {
+        let _is_open = clear(alloc, handle);
         return BAD_NUMBER;
     };
     let order = Order {

@@ -15,7 +15,7 @@ const ENTRY_MILLIS: u64 = 400;
 
 const PATIENCE_MILLIS: u64 = 4_400;
 
-// How many milliseconds a server may take to send a transaction as a script.
+// How many milliseconds a server may take to send a transaction as a script, or a large status.
 const LONG_MILLIS: u64 = 120_000;
 
 // How many milliseconds to wait before the next attempt to reach a server that went away.
@@ -52,16 +52,16 @@ impl Line {
         }
     }
 
-    /// The lines of the reply to a command.
+    /// The lines of the reply to a command. The server may take its time as long as it sends lines or events.
     pub(crate) fn ask<R: Clock + Wait>(
         &mut self,
         rt: &R,
         command: &[u8],
     ) -> Result<Vec<u8>, CtlFault> {
-        Ok(self.station.ask(rt, command, self.limit)?)
+        Ok(self.station.ask_unless_silent(rt, command, self.limit)?)
     }
 
-    /// The lines of the reply to a command that takes a server longer, and whose reply may be large.
+    /// The lines of the reply to a command that takes a server longer, or whose reply may be large.
     pub(crate) fn ask_patiently<R: Clock + Wait>(
         &mut self,
         rt: &R,
@@ -86,7 +86,11 @@ impl Line {
 pub(crate) fn may_return(fault: StationFault) -> bool {
     matches!(
         fault,
-        StationFault::NoServer | StationFault::Busy | StationFault::Gone | StationFault::TimedOut
+        StationFault::NoServer
+            | StationFault::Busy
+            | StationFault::Gone
+            | StationFault::TimedOut
+            | StationFault::TooManyEvents
     )
 }
 

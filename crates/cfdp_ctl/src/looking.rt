@@ -1,38 +1,43 @@
 //! Shows the status and the outbox.
-use crate::asking::{Line, first_line};
+use crate::asking::{Line, first_line, line_again, may_return};
 use crate::fault::CtlFault;
 use crate::screen::Screen;
 use ctl_views::{StatusView, exit_status, outcome_of, shown_lines};
 use ctl_words::{OutboxWords, StatusWords};
 use std::alloc::Global;
 use std::io::Write;
+use std::net::Net;
 use std::sync::Wait;
 use std::thread;
 use std::time::{Clock, Duration};
 
-/// Prints the status, once or each second, and returns the exit status.
+/// Prints the status, once or each second, and returns the exit status. Each second goes on with the next server at the
+/// same path, if the server goes away.
 pub(crate) fn look<R, W, E>(
     rt: &R,
     alloc: Global,
     screen: &mut Screen<W, E>,
     line: &mut Line,
+    path: &str,
     words: StatusWords,
 ) -> Result<u8, CtlFault>
 where
-    R: Clock + Wait,
+    R: Net + Clock + Wait,
     W: Write + Drop,
     E: Write + Drop,
 {
     let mut view = StatusView::new(alloc);
-    let mut status = look_once(rt, alloc, screen, line, words, &mut view)?;
     for _ in rt.forever() {
-        if !words.watch || status != 0 {
-            break;
+        match look_once(rt, alloc, screen, line, words, &mut view) {
+            Ok(0) if words.watch => thread::sleep(rt, Duration::from_secs(1)),
+            Err(CtlFault::Station(fault)) if words.watch && may_return(fault) => {
+                *line = line_again(rt, alloc, screen, path, fault)?;
+                view = StatusView::new(alloc);
+            }
+            done => return done,
         }
-        thread::sleep(rt, Duration::from_secs(1));
-        status = look_once(rt, alloc, screen, line, words, &mut view)?;
     }
-    Ok(status)
+    Ok(0)
 }
 
 fn look_once<R, W, E>(

@@ -3,9 +3,12 @@
 
 mod acting;
 mod asking;
+mod checking;
 mod fault;
 mod following;
 mod history;
+mod hold;
+mod items;
 mod known;
 mod looking;
 mod paths;

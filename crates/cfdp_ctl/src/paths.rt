@@ -37,13 +37,12 @@ pub(crate) fn whole_path(alloc: Global, folder: &Folder, path: &str) -> Result<S
     format!(in alloc; "{folder}/{path}")
 }
 
-/// A file's name at the receiver: the part of its path after the last slash, in the folder `into` if one is given.
+/// A file's name at the receiver: its own, in the folder `into` if one is given.
 pub(crate) fn target_name(
     alloc: Global,
     into: Option<&str>,
-    path: &str,
+    name: &str,
 ) -> Result<String, AllocError> {
-    let name = base_name(path);
     match into {
         Some(folder) if folder.is_empty() || folder.ends_with('/') => {
             format!(in alloc; "{folder}{name}")

@@ -1,12 +1,15 @@
 //! Does what the command line asks for.
 use crate::acting::act;
 use crate::asking::Line;
+use crate::checking::{check, print_unanswered};
 use crate::fault::CtlFault;
 use crate::following::follow;
 use crate::history::print_history;
+use crate::hold::Hold;
+use crate::items::{Item, items_at};
 use crate::looking::{look, look_at_outbox};
 use crate::screen::Screen;
-use crate::sending::{are_files, send};
+use crate::sending::send;
 use crate::tasks::{print_journal, run_command, run_input};
 use crate::watching::{is_folder, watch};
 use ctl_words::{Colour, CtlWords, Task, WordsFault, ctl_help, ctl_version, ctl_words};
@@ -22,7 +25,7 @@ use std::time::Clock;
 /// Does what the command line asks for, and returns the exit status.
 pub(crate) fn run<R, W, E>(rt: &R, alloc: Global, screen: &mut Screen<W, E>) -> u8
 where
-    R: Net + Clock + Wait + Env + Files + Input + AllocGlobal + Copy + Drop,
+    R: Net + Clock + Wait + Env + Files + Input + Hold + AllocGlobal + Copy + Drop,
     W: Write + Drop,
     E: Write + Drop,
 {
@@ -51,7 +54,7 @@ fn words_given<R: Env + AllocGlobal>(rt: &R) -> Result<Vec<String>, CtlFault> {
 
 fn run_line<R, W, E>(rt: &R, alloc: Global, screen: &mut Screen<W, E>, line: &[String]) -> u8
 where
-    R: Net + Clock + Wait + Env + Files + Input + AllocGlobal + Copy + Drop,
+    R: Net + Clock + Wait + Env + Files + Input + Hold + AllocGlobal + Copy + Drop,
     W: Write + Drop,
     E: Write + Drop,
 {
@@ -133,7 +136,7 @@ fn run_words<R, W, E>(
     words: &CtlWords<'_>,
 ) -> Result<u8, CtlFault>
 where
-    R: Net + Clock + Wait + Env + Files + Input + AllocGlobal + Copy + Drop,
+    R: Net + Clock + Wait + Env + Files + Input + Hold + AllocGlobal + Copy + Drop,
     W: Write + Drop,
     E: Write + Drop,
 {
@@ -178,11 +181,14 @@ fn run_told<R, W, E>(
     path: &str,
 ) -> Result<u8, CtlFault>
 where
-    R: Net + Clock + Wait + Env + Files + Input + AllocGlobal + Copy + Drop,
+    R: Net + Clock + Wait + Env + Files + Input + Hold + AllocGlobal + Copy + Drop,
     W: Write + Drop,
     E: Write + Drop,
 {
     match run_at(rt, alloc, screen, words, path) {
+        Err(CtlFault::Station(fault)) if matches!(words.task, Task::Check) => {
+            print_unanswered(alloc, screen, path, fault)
+        }
         Err(CtlFault::Station(fault)) => {
             let text = fault.text();
             let line = format!(in alloc; "cfdp_ctl: {path}: {text}")?;
@@ -202,15 +208,13 @@ fn run_at<R, W, E>(
     path: &str,
 ) -> Result<u8, CtlFault>
 where
-    R: Net + Clock + Wait + Env + Files + Input + AllocGlobal + Copy + Drop,
+    R: Net + Clock + Wait + Env + Files + Input + Hold + AllocGlobal + Copy + Drop,
     W: Write + Drop,
     E: Write + Drop,
 {
-    if let Task::Send(task) = &words.task
-        && !are_files(rt, alloc, screen, task.files.as_slice())?
-    {
+    let Some(items) = items_of(rt, alloc, screen, &words.task)? else {
         return Ok(3);
-    }
+    };
     if let Task::Watch(task) = &words.task
         && !is_folder(rt, alloc, screen, task.folder)?
     {
@@ -218,15 +222,34 @@ where
     }
     let mut line = Line::open(rt, alloc, path, words.patience)?;
     match &words.task {
-        Task::Status(task) => look(rt, alloc, screen, &mut line, *task),
+        Task::Status(task) => look(rt, alloc, screen, &mut line, path, *task),
         Task::Follow(task) => follow(rt, alloc, screen, &mut line, path, *task),
         Task::Outbox(task) => look_at_outbox(rt, alloc, screen, &mut line, *task),
-        Task::Send(task) => send(rt, alloc, screen, &mut line, task),
+        Task::Check => check(rt, alloc, screen, &mut line),
+        Task::Send(task) => send(rt, alloc, screen, &mut line, task, items.as_slice()),
         Task::Watch(task) => watch(rt, alloc, screen, &mut line, path, *task),
         Task::Journal(transaction) => print_journal(rt, alloc, screen, &mut line, *transaction),
         Task::Act(task) => act(rt, alloc, screen, &mut line, *task),
         Task::History(task) => print_history(rt, alloc, screen, task),
         Task::Command(text) => run_command(rt, alloc, screen, &mut line, text.as_bytes()),
         Task::Input => run_input(rt, alloc, screen, &mut line),
+    }
+}
+
+// The files of a `send`, and none for any other task; `None` if a path gives no file.
+fn items_of<R, W, E>(
+    rt: &R,
+    alloc: Global,
+    screen: &mut Screen<W, E>,
+    task: &Task<'_>,
+) -> Result<Option<Vec<Item>>, CtlFault>
+where
+    R: Files + AllocGlobal + Copy + Drop,
+    W: Write + Drop,
+    E: Write + Drop,
+{
+    match task {
+        Task::Send(words) => items_at(rt, alloc, screen, words.files.as_slice(), words.recursive),
+        _ => Ok(Some(Vec::new(alloc))),
     }
 }

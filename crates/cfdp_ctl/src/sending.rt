@@ -2,50 +2,22 @@
 use crate::asking::{Line, first_line};
 use crate::fault::CtlFault;
 use crate::following::ask_for_events;
+use crate::items::Item;
 use crate::known::{ask_for_known, user_for};
-use crate::paths::{Folder, base_name, target_name, whole_path};
+use crate::paths::{Folder, target_name, whole_path};
 use crate::screen::Screen;
-use crate::sent::{SentFiles, have_arrived, send_status};
-use crate::waiting::wait_for_ends;
+use crate::sent::{SentFiles, have_arrived, send_status, waits_for_room};
+use crate::waiting::{now, wait_and_look, wait_for_events};
 use ctl_views::{Page, Tone};
-use ctl_words::{SendCommand, SendWords, send_command};
+use ctl_words::{SendCommand, SendWords, has_long_name, send_command};
 use std::alloc::{AllocError, Global};
 use std::env::Env;
-use std::fs;
 use std::io::Write;
-use std::rt::Files;
 use std::sync::Wait;
 use std::time::Clock;
 
-/// Whether each path is a plain file; prints a line for each that isn't.
-pub(crate) fn are_files<R, W, E>(
-    rt: &R,
-    alloc: Global,
-    screen: &mut Screen<W, E>,
-    paths: &[&str],
-) -> Result<bool, CtlFault>
-where
-    R: Files,
-    W: Write + Drop,
-    E: Write + Drop,
-{
-    let mut all = true;
-    for path in paths {
-        if !is_file(rt, path) {
-            let text = format!(in alloc; "cfdp_ctl: no such file: {path}")?;
-            screen.complain_line(alloc, text.as_str());
-            all = false;
-        }
-    }
-    Ok(all)
-}
-
-fn is_file<R: Files>(rt: &R, path: &str) -> bool {
-    match fs::metadata(rt, path) {
-        Ok(metadata) => metadata.is_file(),
-        Err(_) => false,
-    }
-}
+/// What is said of a file whose names don't fit into a command.
+pub(crate) const LONG_NAME: &str = "its path or its name at the receiver has more than 255 octets";
 
 // The user whose files are sent, and the folder in which the program runs.
 #[derive(Drop)]
@@ -68,6 +40,7 @@ pub(crate) fn send<R, W, E>(
     screen: &mut Screen<W, E>,
     line: &mut Line,
     words: &SendWords<'_>,
+    items: &[Item],
 ) -> Result<u8, CtlFault>
 where
     R: Clock + Wait + Env + AllocGlobal,
@@ -81,17 +54,17 @@ where
     let folder = Folder::of(rt, alloc, words.files.as_slice())?;
     let origin = Origin { user, folder };
     if words.wait {
-        let status = ask_for_events(rt, alloc, screen, line, None, None)?;
+        let status = ask_for_events(rt, alloc, screen, line, None, Some("info"))?;
         if status != 0 {
             return Ok(status);
         }
     }
-    let queued = queue_all(rt, alloc, screen, line, words, &origin)?;
+    let queued = queue_all(rt, alloc, screen, line, words, &origin, items)?;
     let Queued { files, all_taken } = queued;
     let mut files = files;
-    let is_reported = words.class != 1 || words.is_closed;
+    let is_reported = is_reported(words);
     if words.wait {
-        wait_for_ends(rt, alloc, screen, line, is_reported, &mut files)?;
+        wait_for_ends(rt, alloc, screen, line, words, &origin, &mut files)?;
     }
     let all_arrived = have_arrived(is_reported, files.files.as_slice());
     Ok(send_status(all_taken, words.wait, all_arrived))
@@ -103,8 +76,9 @@ fn queue_all<'a, R, W, E>(
     alloc: Global,
     screen: &mut Screen<W, E>,
     line: &mut Line,
-    words: &SendWords<'a>,
+    words: &SendWords<'_>,
     origin: &Origin,
+    items: &'a [Item],
 ) -> Result<Queued<'a>, CtlFault>
 where
     R: Clock + Wait,
@@ -113,22 +87,111 @@ where
 {
     let mut files = SentFiles::new(alloc);
     let mut all_taken = true;
-    for path in words.files.as_slice() {
-        let command = command_for(alloc, words, origin, path)?;
-        let answer = line.ask(rt, command.as_slice())?;
-        let answer = first_line(answer.as_slice());
-        match number_of(answer) {
-            Some(number) => {
-                files.add(path, number)?;
-                print_queued(alloc, screen, path, number)?;
-            }
-            None => {
-                all_taken = false;
-                complain_of(alloc, screen, path, answer)?;
-            }
+    for item in items {
+        match queue(rt, alloc, screen, line, words, origin, &mut files, item)? {
+            Some(number) => files.add(item, number, words.retries)?,
+            None => all_taken = false,
         }
     }
     Ok(Queued { files, all_taken })
+}
+
+// Puts a file in the outbox, and returns its number there; says why if that isn't done.
+fn queue<R, W, E>(
+    rt: &R,
+    alloc: Global,
+    screen: &mut Screen<W, E>,
+    line: &mut Line,
+    words: &SendWords<'_>,
+    origin: &Origin,
+    files: &mut SentFiles<'_>,
+    item: &Item,
+) -> Result<Option<u64>, CtlFault>
+where
+    R: Clock + Wait,
+    W: Write + Drop,
+    E: Write + Drop,
+{
+    let path = item.path.as_str();
+    let Some(command) = command_for(alloc, words, origin, item)? else {
+        complain_of(alloc, screen, path, LONG_NAME.as_bytes())?;
+        return Ok(None);
+    };
+    let answer = ask_for_place(rt, alloc, screen, line, words, files, command.as_slice())?;
+    let answer = first_line(answer.as_slice());
+    let number = number_of(answer);
+    match number {
+        Some(number) => print_queued(alloc, screen, path, number)?,
+        None => complain_of(alloc, screen, path, answer)?,
+    }
+    Ok(number)
+}
+
+// Waits until each file has ended, and prints a line for each end. A file that didn't arrive is put in the outbox again as
+// often as the command line says.
+fn wait_for_ends<R, W, E>(
+    rt: &R,
+    alloc: Global,
+    screen: &mut Screen<W, E>,
+    line: &mut Line,
+    words: &SendWords<'_>,
+    origin: &Origin,
+    files: &mut SentFiles<'_>,
+) -> Result<(), CtlFault>
+where
+    R: Clock + Wait,
+    W: Write + Drop,
+    E: Write + Drop,
+{
+    let is_reported = is_reported(words);
+    let mut shown_at = now(rt);
+    for _ in rt.forever() {
+        if files.open == 0 {
+            break;
+        }
+        shown_at = wait_and_look(rt, alloc, screen, line, is_reported, files, shown_at)?;
+        if let Some((place, item)) = files.next_again() {
+            match queue(rt, alloc, screen, line, words, origin, files, item)? {
+                Some(number) => files.add_again(place, number)?,
+                None => files.give_up(place),
+            }
+        }
+    }
+    screen.clear_progress();
+    Ok(())
+}
+
+// The reply to the command that puts a file in the outbox. If the outbox is full, and ends of files are awaited anyway, waits
+// for a place there.
+fn ask_for_place<R, W, E>(
+    rt: &R,
+    alloc: Global,
+    screen: &mut Screen<W, E>,
+    line: &mut Line,
+    words: &SendWords<'_>,
+    files: &mut SentFiles<'_>,
+    command: &[u8],
+) -> Result<Vec<u8>, CtlFault>
+where
+    R: Clock + Wait,
+    W: Write + Drop,
+    E: Write + Drop,
+{
+    for _ in rt.forever() {
+        let answer = line.ask(rt, command)?;
+        if first_line(answer.as_slice()) != b"refused OutboxFull".as_slice()
+            || !waits_for_room(words.wait, files.open)
+        {
+            return Ok(answer);
+        }
+        wait_for_events(rt, alloc, screen, line, is_reported(words), files)?;
+    }
+    Ok(Vec::new(alloc))
+}
+
+// Whether the receiver reports what became of a file.
+fn is_reported(words: &SendWords<'_>) -> bool {
+    words.class != 1 || words.is_closed
 }
 
 /// The number in a reply such as `queued 12`.
@@ -162,15 +225,18 @@ fn complain_of<W: Write + Drop, E: Write + Drop>(
     Ok(())
 }
 
-// The command that puts a file in the outbox.
+// The command that puts a file in the outbox; `None` if its names are too long for one.
 fn command_for(
     alloc: Global,
     words: &SendWords<'_>,
     origin: &Origin,
-    path: &str,
-) -> Result<Vec<u8>, AllocError> {
-    let source = whole_path(alloc, &origin.folder, path)?;
-    let target = target_name(alloc, words.into, path)?;
+    item: &Item,
+) -> Result<Option<Vec<u8>>, AllocError> {
+    let source = whole_path(alloc, &origin.folder, item.path.as_str())?;
+    let target = target_name(alloc, words.into, item.name.as_str())?;
+    if has_long_name(source.as_str(), target.as_str()) {
+        return Ok(None);
+    }
     let send = SendCommand {
         user: origin.user.as_str(),
         class: words.class,
@@ -179,7 +245,7 @@ fn command_for(
         target: target.as_str(),
         is_closed: words.is_closed,
         is_urgent: words.is_urgent,
-        alias: base_name(path),
+        alias: item.name.as_str(),
     };
-    send_command(alloc, &send)
+    Ok(Some(send_command(alloc, &send)?))
 }

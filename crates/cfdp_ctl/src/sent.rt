@@ -1,8 +1,9 @@
 //! Files that were put in the outbox, and what became of them.
 ghost use Rattle.std.specs.Prelude.{◌≡◌};
 ghost use Rattle.std.specs.List.{list_all};
-ghost use Rattle.cfdp_ctl.specs.Exits.{has_arrived, is_good_end, send_status};
+ghost use Rattle.cfdp_ctl.specs.Exits.{goes_again, has_arrived, is_good_end, send_status, waits_for_room};
 
+use crate::items::Item;
 use ctl_views::{End, Event, Progress, Step, Transaction};
 use std::alloc::{AllocError, Global};
 use std::collections::BTreeMap;
@@ -12,6 +13,8 @@ use std::collections::BTreeMap;
 pub(crate) enum Fate {
     /// It waits for its turn.
     Queued,
+    /// It didn't arrive, and is to be sent again.
+    Again,
     /// It is being sent.
     UnderWay,
     /// It was taken out of the outbox, or can't be sent.
@@ -23,8 +26,10 @@ pub(crate) enum Fate {
 /// A file that was put in the outbox.
 #[derive(Drop)]
 pub(crate) struct SentFile<'a> {
-    pub(crate) path: &'a str,
+    pub(crate) item: &'a Item,
     pub(crate) fate: Fate,
+    /// How often it is sent again at most.
+    pub(crate) retries: u64,
     /// How many octets were sent, and how many the file has.
     pub(crate) octets: u64,
     pub(crate) size: u64,
@@ -51,12 +56,18 @@ impl<'a> SentFiles<'a> {
         }
     }
 
-    /// Adds a file that was put in the outbox under this number.
-    pub(crate) fn add(&mut self, path: &'a str, number: u64) -> Result<(), AllocError> {
+    /// Adds a file that was put in the outbox under this number, and may be sent so often again.
+    pub(crate) fn add(
+        &mut self,
+        item: &'a Item,
+        number: u64,
+        retries: u64,
+    ) -> Result<(), AllocError> {
         let place = self.files.len();
         let file = SentFile {
-            path,
+            item,
             fate: Fate::Queued,
+            retries,
             octets: 0,
             size: 0,
         };
@@ -67,8 +78,39 @@ impl<'a> SentFiles<'a> {
         Ok(())
     }
 
+    /// Notes that a file was put in the outbox again, under this number.
+    pub(crate) fn add_again(&mut self, place: usize, number: u64) -> Result<(), AllocError> {
+        if self.by_number.insert(number, place).is_err() {
+            return Err(AllocError);
+        }
+        if let Some(file) = self.files.get_mut(place) {
+            file.fate = Fate::Queued;
+            file.retries = file.retries.saturating_sub(1);
+            file.octets = 0;
+        }
+        Ok(())
+    }
+
+    /// Notes that a file can't be put in the outbox again.
+    pub(crate) fn give_up(&mut self, place: usize) {
+        let _place = self.end(Some(place), Fate::Unsent);
+    }
+
+    /// The first file that is to be sent again, and its place.
+    pub(crate) fn next_again(&self) -> Option<(usize, &'a Item)> {
+        let place = self
+            .files
+            .iter()
+            .position(|file| matches!(file.fate, Fate::Again))?;
+        Some((place, self.files.get(place)?.item))
+    }
+
     /// Handles an event; returns the place of the file that it ends, if it ends one.
-    pub(crate) fn take(&mut self, event: &Event) -> Result<Option<usize>, AllocError> {
+    pub(crate) fn take(
+        &mut self,
+        is_reported: bool,
+        event: &Event,
+    ) -> Result<Option<usize>, AllocError> {
         match event.step {
             Step::Started(number) => {
                 self.start(number, event.transaction)?;
@@ -80,7 +122,7 @@ impl<'a> SentFiles<'a> {
             }
             Step::Ended(end) => {
                 let place = self.place_of(event.transaction);
-                Ok(self.end(place, Fate::Ended(end)))
+                Ok(self.end_try(is_reported, place, end))
             }
             Step::Other => Ok(None),
         }
@@ -122,6 +164,16 @@ impl<'a> SentFiles<'a> {
         Ok(())
     }
 
+    // Notes the end of a file's transaction; returns its place, if the file has one.
+    fn end_try(&mut self, is_reported: bool, place: Option<usize>, end: End) -> Option<usize> {
+        let file = self.files.get_mut(place?)?;
+        if matches!(file.fate, Fate::UnderWay) && goes_again(is_reported, end, file.retries) {
+            file.fate = Fate::Again;
+            return place;
+        }
+        self.end(place, Fate::Ended(end))
+    }
+
     // Notes that a file has ended; returns its place, if it had not ended before.
     fn end(&mut self, place: Option<usize>, fate: Fate) -> Option<usize> {
         let place = place?;
@@ -133,6 +185,20 @@ impl<'a> SentFiles<'a> {
         self.open = self.open.saturating_sub(1);
         Some(place)
     }
+}
+
+// Whether a file is sent again, by its end, and how often it may be.
+fn goes_again(is_reported: bool, end: End, retries: u64) -> bool
+    ensures { result ≡ goes_again is_reported end retries }
+{
+    !is_good_end(is_reported, end) && retries > 0
+}
+
+/// Whether a file waits for a place in a full outbox, by whether ends are awaited, and how many files haven't ended.
+pub(crate) fn waits_for_room(is_awaited: bool, under_way: usize) -> bool
+    ensures { result ≡ waits_for_room is_awaited under_way }
+{
+    is_awaited && under_way > 0
 }
 
 /// The exit status for files that were sent, by whether the server took all of them, whether their ends were awaited,

@@ -13,11 +13,38 @@ use std::time::{Clock, Duration};
 // shown.
 const TURN_MILLIS: u64 = 500;
 
+// How many events to handle before looking at the clock again.
+const EVENTS: usize = 1_024;
+
 // How many files have a line of progress at the same time.
 const LINES: usize = 16;
 
-/// Waits until each file has ended, and prints a line for each end.
-pub(crate) fn wait_for_ends<R, W, E>(
+/// Waits for events for a short time, and prints a line for each end of a file. Shows the files' progress if that was last shown
+/// a while ago; returns when it was.
+pub(crate) fn wait_and_look<R, W, E>(
+    rt: &R,
+    alloc: Global,
+    screen: &mut Screen<W, E>,
+    line: &mut Line,
+    is_reported: bool,
+    files: &mut SentFiles<'_>,
+    shown_at: Duration,
+) -> Result<Duration, CtlFault>
+where
+    R: Clock + Wait,
+    W: Write + Drop,
+    E: Write + Drop,
+{
+    wait_for_events(rt, alloc, screen, line, is_reported, files)?;
+    if files.open == 0 || !is_due(rt, shown_at) {
+        return Ok(shown_at);
+    }
+    look(rt, alloc, screen, line, files)?;
+    Ok(now(rt))
+}
+
+/// Waits for events for a short time, and prints a line for each end of a file.
+pub(crate) fn wait_for_events<R, W, E>(
     rt: &R,
     alloc: Global,
     screen: &mut Screen<W, E>,
@@ -30,25 +57,19 @@ where
     W: Write + Drop,
     E: Write + Drop,
 {
-    let mut shown_at = now(rt);
-    for _ in rt.forever() {
-        if files.open == 0 {
+    let mut patience = TURN_MILLIS;
+    for _ in 0..EVENTS {
+        let Some(json) = line.next_event(rt, patience)? else {
             break;
-        }
-        let event = line.next_event(rt, TURN_MILLIS)?;
-        if let Some(json) = &event {
-            take_event(alloc, screen, is_reported, files, json.as_slice())?;
-        }
-        if is_due(rt, shown_at) {
-            look(rt, alloc, screen, line, files)?;
-            shown_at = now(rt);
-        }
+        };
+        patience = 0;
+        take_event(alloc, screen, is_reported, files, json.as_slice())?;
     }
-    screen.clear_progress();
     Ok(())
 }
 
-fn now<R: Clock>(rt: &R) -> Duration {
+/// The moment, on the system's monotonic clock.
+pub(crate) fn now<R: Clock>(rt: &R) -> Duration {
     rt.monotonic().unwrap_or(Duration::ZERO)
 }
 
@@ -68,7 +89,7 @@ fn take_event<W: Write + Drop, E: Write + Drop>(
     let Some(event) = read_event(alloc, text.as_str())? else {
         return Ok(());
     };
-    let Some(place) = files.take(&event)? else {
+    let Some(place) = files.take(is_reported, &event)? else {
         return Ok(());
     };
     match files.files.get(place) {
@@ -90,7 +111,7 @@ fn print_end<W: Write + Drop, E: Write + Drop>(
         Tone::Bad
     };
     let mut page = Page::new(alloc);
-    page.push(Tone::Plain, file.path)?;
+    page.push(Tone::Plain, file.item.path.as_str())?;
     page.push(Tone::Plain, ": ")?;
     page.push_line(tone, end_words(is_reported, file.fate, event))?;
     screen.clear_progress();
@@ -105,7 +126,8 @@ fn end_words<'a>(is_reported: bool, fate: Fate, event: &'a Event) -> &'a str {
     }
 }
 
-// On a terminal, asks the server for the files' progress and shows it; elsewhere only asks whether it still runs.
+// Asks whether the server still runs, by what costs it least: to send the events that it sends anyway. On a terminal then
+// asks for the files' progress, which may take long if many wait, and shows it.
 fn look<R, W, E>(
     rt: &R,
     alloc: Global,
@@ -118,11 +140,11 @@ where
     W: Write + Drop,
     E: Write + Drop,
 {
+    let _answer = line.ask(rt, b"follow info")?;
     if !screen.shows_progress {
-        let _answer = line.ask(rt, b"outbox")?;
         return Ok(());
     }
-    let answer = line.ask(rt, b"status")?;
+    let answer = line.ask_patiently(rt, b"status")?;
     note_all(alloc, files, answer.as_slice())?;
     let mut page = Page::new(alloc);
     let count = push_lines(alloc, &mut page, files.files.as_slice())?;
@@ -166,12 +188,12 @@ fn push_line(alloc: Global, page: &mut Page, file: &SentFile<'_>) -> Result<(), 
     let mut text = String::new(alloc);
     push_progress(&mut text, file.octets, file.size)?;
     text.push_str("  ")?;
-    text.push_str(file.path)?;
+    text.push_str(file.item.path.as_str())?;
     page.push_line(Tone::Plain, text.as_str())
 }
 
 fn is_open(fate: Fate) -> bool {
-    matches!(fate, Fate::Queued | Fate::UnderWay)
+    matches!(fate, Fate::Queued | Fate::UnderWay | Fate::Again)
 }
 
 fn is_under_way(fate: Fate) -> bool {

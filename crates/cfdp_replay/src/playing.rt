@@ -1,11 +1,14 @@
 //! Does what the command line asks for.
 use crate::explaining::explain;
 use crate::words::{ReplayWords, replay_help, replay_version, replay_words};
+use entity_config::{Config, ConfigFault};
 use program_replies::{asked_text, fault_of};
-use program_start::{ProgramFault, load_config, print, tell_fault};
+use program_start::{ProgramFault, load_text, print, tell_fault};
 use program_words::{WordsFault, line_of};
 use script_explained::explain_to_end;
 use script_replay::{AnswerPace, Session, play_to_end, play_with};
+use station_config::read_entity;
+use std::alloc::Global;
 use std::env::Env;
 use std::fs::File;
 use std::io;
@@ -91,6 +94,16 @@ fn unopened(error: &io::Error) -> ProgramFault {
     }
 }
 
+// The entity's configuration in a file, which may be a station's.
+fn config_at<R: Files>(rt: &R, alloc: Global, path: &str) -> Result<Config, ProgramFault> {
+    let text = load_text(rt, alloc, path)?;
+    match read_entity(alloc, text.as_str()) {
+        Ok(config) => Ok(config),
+        Err(ConfigFault::NoMemory) => Err(ProgramFault::NoMemory),
+        Err(fault) => Err(ProgramFault::Config(fault.number())),
+    }
+}
+
 // Plays a script that begins with the configuration in a file, or with the reference configuration.
 fn play_from<R, S, W, E>(
     rt: &R,
@@ -109,7 +122,7 @@ where
     let alloc = rt.alloc();
     let config = match words.config {
         None => None,
-        Some(path) => Some(load_config(rt, alloc, path)?),
+        Some(path) => Some(config_at(rt, alloc, path)?),
     };
     if words.explains {
         let session = match config {

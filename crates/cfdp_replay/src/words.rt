@@ -24,8 +24,8 @@ const HELP: &str = "Plays a script of events through one CFDP entity, and prints
 Usage: cfdp_replay [--config FILE] [--explain] [SCRIPT]
        cfdp_replay --explain-pdu HEX
 
-  --config FILE      the configuration that the script begins with, in TOML (default: the
-                     reference configuration, entity 2 with the users alice and bob)
+  --config FILE      the configuration that the script begins with, or a station's file, in TOML
+                     (default: the reference configuration, entity 2 with the users alice and bob)
   SCRIPT             the script's file (default: the standard input)
   --explain          prints below each reply what it says in words, in lines that begin with `# `
   --explain-pdu HEX  plays nothing: prints in words what one datagram says

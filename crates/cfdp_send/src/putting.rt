@@ -4,12 +4,12 @@ use crate::outputs::Outputs;
 use crate::threads::{Run, Wanted};
 use cfdp_types::{PutFault, PutRequest};
 use entity_config::{Config, Setting};
+use program_arrivals::Sources;
 use program_numbers::{HeldNumbers, Puts};
 use program_replies::asked_text;
 use program_start::{
     ProgramFault, Started, load_config, load_file, push_explanation, tell_explanation, tell_fault,
 };
-use program_station::Sources;
 use program_udp::open_socket;
 use program_words::{
     PutWords, WordsFault, asks_for_check, check_words, push_check_complaint, push_put_complaint,

@@ -5,12 +5,15 @@ use crate::refusing::RefusingStore;
 use answer_texts::push_bundle;
 use cfdp_types::{PutRequest, TxnKey};
 use entity_routing::Request;
+use program_arrivals::Sources;
+use program_common::Common;
 use program_desk::{Desk, Step, Urgency, moment};
 use program_numbers::HeldNumbers;
 use program_start::ProgramFault;
-use program_station::{Common, MainThread, REST_MS, Sources, Station, WayIn, run_beside};
+use program_station::{REST_MS, Station};
 use program_storing::{Depot, Storer, StorerTurn};
 use program_tallies::Tallies;
+use program_threads::{MainThread, WayIn, run_beside};
 use program_udp::PduSender;
 use shared_entity::{Entity, EntityRefusal};
 use shared_lanes::{Names, NoGate};
@@ -48,25 +51,38 @@ pub(crate) struct Run<R: Files + AllocGlobal + Drop, W: Drop, P: Drop> {
     pub(crate) outputs: Outputs<W, P>,
 }
 
-// The state of the main thread.
+// What the main thread owns. It works with references to the parts.
 #[derive(Drop)]
 struct Putter<'a, N: Names, R: Files + AllocGlobal + Copy + Drop, W: Drop, P: Drop> {
     rt: &'a R,
     alloc: Global,
     desk: &'a Desk,
-    /// The steps that have yet to be noted, the last one first.
     steps: Vec<Step>,
     station: Station<'a, N, R>,
-    /// What refuses files that this entity receives.
     storer: Storer<'a, N, R, RefusingStore>,
     numbers: Option<HeldNumbers<R>>,
     ports: Vec<UserPort>,
     user: usize,
-    /// The request, until it was made.
-    put: Option<PutRequest>,
+    put: PutRequest,
+    outputs: Outputs<W, P>,
+}
+
+// What the main thread works with, once the Put is made: what a function over it costs to prove grows with all that a
+// value owns, so the parts are references.
+#[derive(Drop)]
+struct Working<'s, 'a, N: Names, R: Copy> {
+    rt: &'a R,
+    alloc: Global,
+    desk: &'a Desk,
+    /// The steps that have yet to be noted, the last one first.
+    steps: &'s mut Vec<Step>,
+    station: &'s mut Station<'a, N, R>,
+    /// What refuses files that this entity receives.
+    storer: &'s mut Storer<'a, N, R, RefusingStore>,
+    ports: &'s mut Vec<UserPort>,
+    user: usize,
     /// How many octets the file has.
     size: u64,
-    outputs: Outputs<W, P>,
 }
 
 /// Puts a file with an open entity and its socket, and runs until the transaction has ended; returns the exit status.
@@ -141,7 +157,6 @@ fn putter_over<'x, N: Names, R: Wait + Clock + Files + AllocGlobal + Copy + Drop
         numbers,
         ..
     } = wanted;
-    let size = put.file().as_slice().len() as u64;
     let store = RefusingStore { refused: 0 };
     Ok(Putter {
         rt,
@@ -153,8 +168,7 @@ fn putter_over<'x, N: Names, R: Wait + Clock + Files + AllocGlobal + Copy + Drop
         numbers,
         ports,
         user,
-        put: Some(put),
-        size,
+        put,
         outputs,
     })
 }
@@ -168,11 +182,34 @@ impl<
 > MainThread for Putter<'a, N, R, W, P> {
     /// Makes the Put, and works until the transaction has ended.
     fn work(self) -> Result<u8, ProgramFault> {
-        let mut putter = self;
-        let ended = put_and_work(&mut putter);
-        putter.outputs.end_line();
-        if let Some(numbers) = &putter.numbers {
-            numbers.leave(putter.rt);
+        let Putter {
+            rt,
+            alloc,
+            desk,
+            mut steps,
+            mut station,
+            mut storer,
+            mut numbers,
+            mut ports,
+            user,
+            put,
+            mut outputs,
+        } = self;
+        let mut work = Working {
+            rt,
+            alloc,
+            desk,
+            steps: &mut steps,
+            station: &mut station,
+            storer: &mut storer,
+            ports: &mut ports,
+            user,
+            size: put.file().as_slice().len() as u64,
+        };
+        let ended = put_and_work(&mut work, &mut outputs, &mut numbers, put);
+        outputs.end_line();
+        if let Some(numbers) = &numbers {
+            numbers.leave(rt);
         }
         ended
     }
@@ -183,71 +220,83 @@ fn put_and_work<
     R: Wait + Clock + Files + AllocGlobal + Copy + Drop,
     W: Write + Drop,
     P: Write + Drop,
->(putter: &mut Putter<'_, N, R, W, P>) -> Result<u8, ProgramFault> {
-    let (rt, desk) = (putter.rt, putter.desk);
-    let key = putter.begin()?;
-    let mut text = String::new(putter.alloc);
-    for _ in rt.forever() {
-        let has_settled = putter.station.settle_left(desk, &mut putter.steps);
-        if !putter.station.is_settled() {
-            thread::sleep(rt, Duration::from_millis(REST_MS));
+>(
+    work: &mut Working<'_, '_, N, R>,
+    outputs: &mut Outputs<W, P>,
+    numbers: &mut Option<HeldNumbers<R>>,
+    put: PutRequest,
+) -> Result<u8, ProgramFault> {
+    let key = begin(work, numbers, put)?;
+    let mut text = String::new(work.alloc);
+    for _ in work.rt.forever() {
+        let has_settled = work.station.settle_left(work.desk, work.steps);
+        if !work.station.is_settled() {
+            thread::sleep(work.rt, Duration::from_millis(REST_MS));
             continue;
         }
         text.clear();
-        let status = putter.take_one(key, &mut text)?;
-        putter.outputs.tell(text.as_str())?;
+        let status = work.take_one(key, &mut text)?;
+        outputs.tell(text.as_str())?;
         if let Some(status) = status {
             return Ok(status);
         }
-        let now = moment(rt);
-        let has_worked = putter.station.turn(now);
-        putter.abandon_full(key);
-        let has_refused = putter.refuse_files(now);
-        putter
-            .outputs
-            .show(putter.alloc, putter.station.reach(), putter.size);
-        if !has_settled && text.is_empty() && !has_worked && !has_refused {
-            let until = putter.station.next_moment(now);
-            desk.wait(rt, now, until.min(now.saturating_add(LONGEST_SLEEP_MS)));
+        let now = moment(work.rt);
+        let has_worked = work.turn(key, now);
+        outputs.show(work.alloc, work.station.reach(), work.size);
+        if !has_settled && text.is_empty() && !has_worked {
+            let until = work.station.next_moment(now);
+            let latest = now.saturating_add(LONGEST_SLEEP_MS);
+            work.desk.wait(work.rt, now, until.min(latest));
         }
     }
     Ok(2)
 }
 
-impl<'a, N: Names, R: Wait + Clock + Files + AllocGlobal + Copy + Drop, W: Drop, P: Drop> Putter<
-    'a,
-    N,
-    R,
-    W,
-    P,
-> {
-    // Passes the Put to the entity.
-    fn begin(&mut self) -> Result<TxnKey, ProgramFault> {
-        let entity = self.station.entity();
-        self.station.reserve()?;
-        let Some(put) = self.put.take() else {
-            return Err(ProgramFault::Usage);
-        };
-        let destination = put.destination();
-        let request = Request::Put(0, put);
-        if !entity.may_request(self.user, &request) {
-            return Err(ProgramFault::Usage);
+// Passes the Put to the entity, once the file of numbers covers its number.
+fn begin<N: Names, R: Wait + Clock + Files + AllocGlobal + Copy + Drop>(
+    work: &mut Working<'_, '_, N, R>,
+    numbers: &mut Option<HeldNumbers<R>>,
+    put: PutRequest,
+) -> Result<TxnKey, ProgramFault> {
+    work.station.timetable.reserve()?;
+    let destination = put.destination();
+    let request = Request::Put(0, put);
+    let entity = work.station.entity();
+    if !entity.may_request(work.user, &request) {
+        return Err(ProgramFault::Usage);
+    }
+    cover(numbers)?;
+    match entity.request(work.rt, &NoGate, work.user, request) {
+        Ok(Ok(done)) => {
+            let key = done.key;
+            work.station.timetable.begin(key, destination);
+            work.station.settle_own(done);
+            Ok(key)
         }
-        if let Some(numbers) = &mut self.numbers {
-            numbers.cover()?;
-        }
-        match entity.request(self.rt, &NoGate, self.user, request) {
-            Ok(Ok(done)) => {
-                let key = done.key;
-                self.station.begin(key, destination);
-                self.station.settle_own(done);
-                Ok(key)
-            }
-            Ok(Err(refused)) => Err(ProgramFault::Refused(refused.why)),
-            Err(EntityRefusal::Lane(refused)) => Err(ProgramFault::Refused(refused.why)),
-            Err(EntityRefusal::Route(why)) => Err(ProgramFault::NotRouted(why)),
-            Err(EntityRefusal::WrongLane) => Err(ProgramFault::WrongLane),
-        }
+        Ok(Err(refused)) => Err(ProgramFault::Refused(refused.why)),
+        Err(EntityRefusal::Lane(refused)) => Err(ProgramFault::Refused(refused.why)),
+        Err(EntityRefusal::Route(why)) => Err(ProgramFault::NotRouted(why)),
+        Err(EntityRefusal::WrongLane) => Err(ProgramFault::WrongLane),
+    }
+}
+
+// Whether the file of numbers covers the Put's number, if there is such a file.
+fn cover<R: Files + AllocGlobal + Drop>(
+    numbers: &mut Option<HeldNumbers<R>>,
+) -> Result<(), ProgramFault> {
+    match numbers {
+        Some(numbers) => numbers.cover(),
+        None => Ok(()),
+    }
+}
+
+impl<'s, 'a, N: Names, R: Wait + Clock + Copy> Working<'s, 'a, N, R> {
+    // Goes on with timers and PDUs, and refuses files that this entity receives; returns whether there was any work.
+    fn turn(&mut self, key: TxnKey, now: u64) -> bool {
+        let has_worked = self.station.turn(now);
+        self.abandon_full(key);
+        let has_refused = self.refuse_files(now);
+        has_worked || has_refused
     }
 
     // Abandons the Put's transaction if its journal is full, because it can't end by itself then. If memory or room in

@@ -6,9 +6,9 @@ use program_control::ControlSocket;
 use program_desk::moment;
 use program_numbers::{HeldNumbers, Puts};
 use program_outbox::Outgoing;
-use program_start::ProgramFault;
-use program_words::ServerWords;
+use program_start::{ProgramFault, may_be_held};
 use server_commands::OutboxFolder;
+use station_config::SendingSettings;
 use std::alloc::Global;
 use std::net::Net;
 use std::rt::Files;
@@ -23,19 +23,19 @@ pub(crate) struct Kept<R: Files + AllocGlobal + Drop> {
 }
 
 impl<R: Net + Clock + Files + AllocGlobal + Copy + Drop> Kept<R> {
-    /// Opens the files that the words name. What waited in the outbox when the last run stopped, or was under way from
+    /// Opens the files that the settings name. What waited in the outbox when the last run stopped, or was under way from
     /// there, waits again. If the outbox can't be opened, the file of numbers is released.
     pub(crate) fn open(
         rt: &R,
         alloc: Global,
-        words: &ServerWords<'_>,
+        settings: &SendingSettings,
         config: &mut Config,
     ) -> Result<Kept<R>, ProgramFault> {
-        let numbers = match words.numbers {
-            Some(path) => Some(HeldNumbers::open(rt, alloc, path, Puts::Many, config)?),
+        let numbers = match &settings.numbers {
+            Some(path) => Some(HeldNumbers::open(rt, alloc, path.as_str(), Puts::Many, config)?),
             None => None,
         };
-        match outbox_of(rt, alloc, words, config) {
+        match outbox_of(rt, alloc, settings, config) {
             Ok((outgoing, held)) => Ok(Kept {
                 numbers,
                 outgoing,
@@ -59,12 +59,16 @@ pub(crate) struct OutboxHold {
 }
 
 impl OutboxHold {
-    /// Takes hold of the file at a path. Fails if another program has it.
+    /// Takes hold of the file at a path. Fails if another program has it, or if it is a link, has a second name or isn't a
+    /// plain file.
     pub(crate) fn open<R: Net + Files>(
         rt: &R,
         alloc: Global,
         path: &str,
     ) -> Result<OutboxHold, ProgramFault> {
+        if !may_be_held(rt, path) {
+            return Err(ProgramFault::Outbox);
+        }
         let path = format!(in alloc; "{path}.lock")?;
         match ControlSocket::open(rt, alloc, path.as_str()) {
             Ok(socket) => Ok(OutboxHold { socket, path }),
@@ -78,18 +82,18 @@ impl OutboxHold {
     }
 }
 
-// The outbox in memory and its file, if the words name one.
+// The outbox in memory and its file, if the settings name one.
 fn outbox_of<R: Clock + Files + AllocGlobal + Copy + Drop>(
     rt: &R,
     alloc: Global,
-    words: &ServerWords<'_>,
+    settings: &SendingSettings,
     config: &Config,
 ) -> Result<(Outgoing, Option<OutboxFolder<R>>), ProgramFault> {
     let mut outgoing = Outgoing::new(alloc, config.users())?;
-    let Some(path) = words.outbox else {
+    let Some(path) = &settings.outbox else {
         return Ok((outgoing, None));
     };
-    let (folder, name) = parts_of(path);
+    let (folder, name) = parts_of(path.as_str());
     let disk = SystemDisk::new(*rt, String::from_str(alloc, folder)?);
     let held = HeldOutbox::open(disk, alloc, String::from_str(alloc, name)?).map_err(fault_of)?;
     for entry in held.entries() {

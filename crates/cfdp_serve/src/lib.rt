@@ -5,11 +5,12 @@
 mod console;
 mod kept;
 mod named;
+mod opening;
 mod serving;
 mod setting;
 mod threads;
-mod watched;
 mod working;
 
+pub use opening::Streams;
 pub use server_recording::{FolderStoring, ServerFiles};
-pub use serving::{Streams, serve};
+pub use serving::serve;

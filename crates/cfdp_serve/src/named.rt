@@ -1,7 +1,9 @@
 //! The entity of a run, over queues that bear the run's name.
 ghost use Rattle.shared_entity.specs.Opening.{AreQueuesFor};
 
-use crate::threads::{Given, Sockets, Starting, serve_over};
+use crate::kept::Kept;
+use crate::opening::{Sockets, Starting, Streams};
+use crate::threads::serve_over;
 use entity_config::Config;
 use program_start::{FileReader, ProgramFault};
 use server_recording::ServerFiles;
@@ -25,10 +27,11 @@ pub(crate) fn serve_named<
     starting: &Starting<'_, R, F>,
     config: Config,
     sockets: Sockets<'_>,
-    given: Given<R, I, W>,
+    kept: Kept<R>,
+    streams: Streams<I, W>,
 ) -> Result<u8, ProgramFault> {
     let queues = queues_of(*starting.rt, starting.alloc, &config)?;
-    serve_opened::<Brand, R, F, I, W>(starting, config, queues, sockets, given)
+    serve_opened::<Brand, R, F, I, W>(starting, config, queues, sockets, kept, streams)
 }
 
 fn serve_opened<
@@ -42,10 +45,11 @@ fn serve_opened<
     config: Config,
     queues: Queues<R>,
     sockets: Sockets<'_>,
-    given: Given<R, I, W>,
+    kept: Kept<R>,
+    streams: Streams<I, W>,
 ) -> Result<u8, ProgramFault>
     requires { AreQueuesFor N.queue N.lanes config queues }
 {
     let (entity, ports) = Entity::<N, R>::open(starting.alloc, config, queues)?;
-    serve_over(starting, &entity, ports, sockets, given)
+    serve_over(starting, &entity, ports, sockets, kept, streams)
 }

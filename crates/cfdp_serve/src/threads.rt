@@ -1,28 +1,32 @@
 //! The threads of the server: one reads commands, beside those of each program.
 use crate::console::Console;
 use crate::kept::Kept;
-use crate::setting::{events_of, rest_of, set_links};
+use crate::opening::{Sockets, Starting, Streams};
+use crate::setting::{events_of, set_links};
 use crate::working::Serving;
+use program_arrivals::Sources;
+use program_common::{Common, Shared};
 use program_desk::{Desk, Urgency, wall_moment};
 use program_lot::Lot;
 use program_outbox::Windows;
 use program_seats::{PLACES, Seats};
 use program_start::{FileReader, ProgramFault};
-use program_station::{Common, Control, Sources, Station, WayIn, run_commanded, run_controlled};
+use program_station::Station;
 use program_storing::Depot;
 use program_tallies::Tallies;
+use program_threads::{Control, WayIn, run_commanded, run_controlled};
 use program_udp::PduSender;
-use program_words::ServerWords;
 use script_io::in_blocks;
-use server_commands::{Server, counts_of};
+use server_commands::{Numbers, Outbox, Server, Settings as CommandSettings, counts_of};
 use server_lanes::{Begun, Readiness};
 use server_recording::{Book, FolderStoring, Recorder, ServerFiles, Ties, Watched};
 use server_reports::{Audience, Reports};
 use shared_entity::Entity;
 use shared_lanes::Names;
+use station_config::{Settings, SourceRule};
 use station_lines::Moment;
 use std::alloc::{AllocError, Global};
-use std::io::{BufReader, Read, Write};
+use std::io::{Read, Write};
 use std::net::UdpSocket;
 use std::rt::Files;
 use std::sync::Wait;
@@ -36,32 +40,24 @@ const STEPS: usize = 1_024;
 
 const LINES: usize = PLACES;
 
-/// What a server starts from: its runtime, what reads files to be sent, and the words of its command line.
+/// What the threads of a server share.
 #[derive(Drop)]
-pub(crate) struct Starting<'x, R, F> {
-    pub(crate) rt: &'x R,
-    pub(crate) alloc: Global,
-    pub(crate) files: &'x F,
-    pub(crate) words: &'x ServerWords<'x>,
+struct Opened<'x, N: Names, R: Copy, F> {
+    rt: &'x R,
+    alloc: Global,
+    files: &'x F,
+    entity: &'x Entity<N, R>,
+    socket: &'x UdpSocket,
+    control: Option<Control<'x>>,
+    desk: &'x Desk,
+    depot: &'x Depot,
+    tallies: &'x Tallies,
+    lot: &'x Lot,
+    book: &'x Book,
+    settings: &'x Settings,
 }
 
-/// The sockets of a server: for datagrams, and for clients if those command it.
-#[derive(Clone, Copy)]
-pub(crate) struct Sockets<'x> {
-    pub(crate) datagrams: &'x UdpSocket,
-    pub(crate) control: Option<Control<'x>>,
-}
-
-/// What a server is given: what it keeps over restarts, and where commands come from and replies go without a control
-/// socket.
-#[derive(Drop)]
-pub(crate) struct Given<R: Files + AllocGlobal + Drop, I: Drop, W: Drop> {
-    pub(crate) kept: Kept<R>,
-    pub(crate) reader: I,
-    pub(crate) writer: W,
-}
-
-/// Serves over an opened entity and its socket until the commands end. Returns the exit status.
+/// Serves over an opened entity and its sockets until the commands end. Returns the exit status.
 pub(crate) fn serve_over<
     N: Names + Send + Sync,
     R: Threads + Wait + Clock + Files + AllocGlobal + Copy + Drop + Send + Sync,
@@ -73,45 +69,49 @@ pub(crate) fn serve_over<
     entity: &Entity<N, R>,
     ports: Vec<UserPort>,
     sockets: Sockets<'_>,
-    given: Given<R, I, W>,
+    kept: Kept<R>,
+    streams: Streams<I, W>,
 ) -> Result<u8, ProgramFault> {
     let Starting {
         rt,
         alloc,
         files,
-        words,
+        settings,
+        text,
     } = *starting;
+    let (config, control) = (entity.config(), sockets.control);
     let desk = Desk::new(alloc, STEPS, LINES)?;
-    let tallies = Tallies::new(alloc, words.workers as usize, entity.config().remotes())?;
-    let lot = Lot::new(alloc, entity.config(), words.park, takes_bundles(words))?;
-    let depot = Depot::new(alloc, entity.config())?;
-    let book = Book::new(alloc, words)?;
-    let seats = sockets.control.map(|control| control.seats);
+    let tallies = Tallies::new(alloc, settings.station.workers as usize, config.remotes())?;
+    let lot = Lot::new(alloc, config, settings.station.park, control.is_some())?;
+    let depot = Depot::new(alloc, config)?;
+    let book = Book::new(alloc, &settings.record)?;
     let ties = Ties {
-        config: entity.config(),
+        config,
+        text,
         book: &book,
         desk: &desk,
-        seats,
+        seats: control.map(|control| control.seats),
     };
-    let recorder = Recorder::new(rt, alloc, files, words, ties)?;
+    let recorder = Recorder::new(rt, alloc, files, &settings.record, ties)?;
     let opened = Opened {
         rt,
         alloc,
         files,
         entity,
         socket: sockets.datagrams,
+        control,
         desk: &desk,
         depot: &depot,
         tallies: &tallies,
         lot: &lot,
         book: &book,
-        words,
+        settings,
     };
-    serve_recorded(opened, ports, sockets.control, given, recorder)
+    serve_beside(opened, ports, kept, streams, recorder)
 }
 
-// Serves beside a thread that records transactions.
-fn serve_recorded<
+// Serves beside two threads: one records transactions, the other stores received files.
+fn serve_beside<
     'x,
     N: Names + Send + Sync,
     R: Threads + Wait + Clock + Files + AllocGlobal + Copy + Drop + Send + Sync,
@@ -121,11 +121,20 @@ fn serve_recorded<
 >(
     opened: Opened<'x, N, R, F>,
     ports: Vec<UserPort>,
-    control: Option<Control<'x>>,
-    given: Given<R, I, W>,
+    kept: Kept<R>,
+    streams: Streams<I, W>,
     recorder: Recorder<'x, R, F>,
 ) -> Result<u8, ProgramFault> {
-    let (rt, book) = (opened.rt, opened.book);
+    let (rt, files, depot, book) = (opened.rt, opened.files, opened.depot, opened.book);
+    let storing = FolderStoring {
+        rt,
+        alloc: opened.alloc,
+        entity: opened.entity,
+        desk: opened.desk,
+        depot,
+        folder: String::from_str(opened.alloc, opened.settings.store.folder.as_str())?,
+        settings: &opened.settings.store,
+    };
     thread::scope(
         thread::scope_env(),
         rt,
@@ -133,37 +142,12 @@ fn serve_recorded<
             let Ok(_records) = scope.spawn(move || recorder.run()) else {
                 return Err(ProgramFault::Start);
             };
-            let ended = serve_stored(opened, ports, control, given);
-            book.close(rt);
-            ended
-        },
-    )
-}
-
-// Serves beside a thread that stores received files.
-fn serve_stored<
-    'x,
-    N: Names + Send + Sync,
-    R: Threads + Wait + Clock + Files + AllocGlobal + Copy + Drop + Send + Sync,
-    F: FileReader + ServerFiles + Sync,
-    I: Read + Send + Drop,
-    W: Write + Drop,
->(
-    opened: Opened<'x, N, R, F>,
-    ports: Vec<UserPort>,
-    control: Option<Control<'x>>,
-    given: Given<R, I, W>,
-) -> Result<u8, ProgramFault> {
-    let (rt, files, depot, book) = (opened.rt, opened.files, opened.depot, opened.book);
-    let storing = storing_over(&opened)?;
-    thread::scope(
-        thread::scope_env(),
-        rt,
-        move |scope| -> Result<u8, ProgramFault> {
             let Ok(_stores) = scope.spawn(move || files.store(storing)) else {
+                depot.close(rt);
+                book.close(rt);
                 return Err(ProgramFault::Start);
             };
-            let ended = serve_commanded(&opened, ports, control, given);
+            let ended = serve_lines(&opened, ports, kept, streams);
             depot.close(rt);
             book.close(rt);
             ended
@@ -171,73 +155,7 @@ fn serve_stored<
     )
 }
 
-// Serves by the lines of a reader, or by those of clients.
-fn serve_commanded<
-    'x,
-    N: Names + Send + Sync,
-    R: Threads + Wait + Clock + Files + AllocGlobal + Copy + Drop + Send + Sync,
-    F: FileReader + ServerFiles + Sync,
-    I: Read + Send + Drop,
-    W: Write + Drop,
->(
-    opened: &Opened<'x, N, R, F>,
-    ports: Vec<UserPort>,
-    control: Option<Control<'x>>,
-    given: Given<R, I, W>,
-) -> Result<u8, ProgramFault> {
-    match control {
-        None => serve_reader(opened, ports, given),
-        Some(control) => serve_clients::<N, R, F, W>(opened, ports, given.kept, control),
-    }
-}
-
-// Whether the server itself takes from its users' queues as bundles come.
-fn takes_bundles(words: &ServerWords<'_>) -> bool {
-    let is_reported = words.control.is_some() || words.log.is_some() || words.record.is_some();
-    is_reported || words.follow || words.counters
-}
-
-// What is opened of a server before its threads start.
-#[derive(Drop)]
-struct Opened<'x, N: Names, R: Copy, F> {
-    rt: &'x R,
-    alloc: Global,
-    files: &'x F,
-    entity: &'x Entity<N, R>,
-    socket: &'x UdpSocket,
-    desk: &'x Desk,
-    depot: &'x Depot,
-    tallies: &'x Tallies,
-    lot: &'x Lot,
-    book: &'x Book,
-    words: &'x ServerWords<'x>,
-}
-
-// Serves by the lines of a reader.
-fn serve_reader<
-    'x,
-    N: Names + Send + Sync,
-    R: Threads + Wait + Clock + Files + AllocGlobal + Copy + Drop + Send + Sync,
-    F: FileReader + ServerFiles + Sync,
-    I: Read + Send + Drop,
-    W: Write + Drop,
->(
-    opened: &Opened<'x, N, R, F>,
-    ports: Vec<UserPort>,
-    given: Given<R, I, W>,
-) -> Result<u8, ProgramFault> {
-    let Given {
-        kept,
-        reader,
-        writer,
-    } = given;
-    match in_blocks(opened.alloc, reader) {
-        Ok(reader) => serve_lines(opened, ports, kept, reader, writer),
-        Err(_) => Err(ProgramFault::NoMemory),
-    }
-}
-
-// Serves by the lines of a reader that is read in blocks.
+// Serves by the lines of clients, or by those of a reader.
 fn serve_lines<
     'x,
     N: Names + Send + Sync,
@@ -249,87 +167,62 @@ fn serve_lines<
     opened: &Opened<'x, N, R, F>,
     ports: Vec<UserPort>,
     kept: Kept<R>,
-    reader: BufReader<I>,
-    writer: W,
+    streams: Streams<I, W>,
 ) -> Result<u8, ProgramFault> {
-    let way_in = way_in_of(opened)?;
-    match server_over(opened, ports, kept, None) {
-        Ok(server) => {
-            let main_thread = Serving {
-                server,
-                console: Console::Printed(writer),
-            };
-            let common = common_of(opened);
-            run_commanded(&common, way_in, opened.files, reader, main_thread)
-        }
-        Err(fault) => Err(fault),
-    }
-}
-
-// Serves by the lines of clients.
-fn serve_clients<
-    'x,
-    N: Names + Send + Sync,
-    R: Threads + Wait + Clock + Files + AllocGlobal + Copy + Drop + Send + Sync,
-    F: FileReader + ServerFiles + Sync,
-    W: Write + Drop,
->(
-    opened: &Opened<'x, N, R, F>,
-    ports: Vec<UserPort>,
-    kept: Kept<R>,
-    control: Control<'x>,
-) -> Result<u8, ProgramFault> {
-    let way_in = way_in_of(opened)?;
-    match server_over(opened, ports, kept, Some(control.seats)) {
-        Ok(server) => {
-            let main_thread = Serving {
-                server,
-                console: Console::<W>::Seated(control.seats),
-            };
-            let common = common_of(opened);
-            run_controlled(&common, way_in, opened.files, control, main_thread)
-        }
-        Err(fault) => Err(fault),
-    }
-}
-
-// What the threads of a server share with those of any program.
-fn common_of<'x, N: Names, R: Copy, F>(opened: &Opened<'x, N, R, F>) -> Common<'x, N, R> {
-    Common {
+    let common = Common {
         rt: opened.rt,
         alloc: opened.alloc,
         entity: opened.entity,
         socket: opened.socket,
         desk: opened.desk,
+    };
+    let Streams { reader, writer } = streams;
+    let Ok(reader) = in_blocks(opened.alloc, reader) else {
+        return Err(ProgramFault::NoMemory);
+    };
+    let way_in = way_in_of(opened, &common)?;
+    match (server_over(opened, &common, ports, kept), opened.control) {
+        (Ok(server), Some(control)) => {
+            let main_thread = Serving {
+                server,
+                console: Console::<W>::Seated(control.seats),
+            };
+            run_controlled(&common, way_in, opened.files, control, main_thread)
+        }
+        (Ok(server), None) => {
+            let main_thread = Serving {
+                server,
+                console: Console::Printed(writer),
+            };
+            run_commanded(&common, way_in, opened.files, reader, main_thread)
+        }
+        (Err(fault), _) => Err(fault),
     }
 }
 
 // The way in of a server's datagrams. What users receive is looked at within a millisecond, if it is taken as it comes.
 fn way_in_of<'x, N: Names, R: Wait + Clock + Copy, F>(
     opened: &Opened<'x, N, R, F>,
+    common: &Common<'x, N, R>,
 ) -> Result<WayIn<'x, R>, ProgramFault> {
-    let words = opened.words;
-    let others = if takes_bundles(words) {
-        Urgency::Soon
-    } else {
-        Urgency::WithItsTimers
+    let others = match opened.control {
+        Some(_) => Urgency::Soon,
+        None => Urgency::WithItsTimers,
     };
-    let sources = if words.strict_sources {
-        Sources::OwnAlone
-    } else if words.known_sources {
-        Sources::KnownAlone
-    } else {
-        Sources::Any
+    let sources = match opened.settings.station.sources {
+        SourceRule::Any => Sources::Any,
+        SourceRule::Hosts => Sources::HostsAlone,
+        SourceRule::Known => Sources::KnownAlone,
+        SourceRule::Own => Sources::OwnAlone,
     };
-    let common = common_of(opened);
     let lot = parking_of(opened);
-    let way_in = WayIn::new(&common, opened.tallies, others, sources, lot)?;
+    let way_in = WayIn::new(common, opened.tallies, others, sources, lot)?;
     Ok(way_in)
 }
 
 // Where datagrams are parked, if they have any room.
 fn parking_of<'x, N: Names, R: Copy, F>(opened: &Opened<'x, N, R, F>) -> Option<&'x Lot> {
-    if opened.words.park == 0 {
+    if opened.settings.station.park == 0 {
         None
     } else {
         Some(opened.lot)
@@ -339,11 +232,11 @@ fn parking_of<'x, N: Names, R: Copy, F>(opened: &Opened<'x, N, R, F>) -> Option<
 // What the main thread of a server has.
 fn server_over<'x, N: Names, R: Wait + Clock + Files + AllocGlobal + Copy + Drop, F>(
     opened: &Opened<'x, N, R, F>,
+    common: &Common<'x, N, R>,
     ports: Vec<UserPort>,
     kept: Kept<R>,
-    seats: Option<&'x Seats>,
 ) -> Result<Server<'x, N, R>, ProgramFault> {
-    let words = opened.words;
+    let settings = opened.settings;
     let (alloc, config) = (opened.alloc, opened.entity.config());
     let steps = Vec::with_capacity(alloc, opened.desk.step_room())?;
     let Kept {
@@ -352,35 +245,47 @@ fn server_over<'x, N: Names, R: Wait + Clock + Files + AllocGlobal + Copy + Drop
         held,
     } = kept;
     let begun = Begun::new(alloc, config)?;
-    let readiness = Readiness::new(alloc, config, words.lanes.as_slice())?;
+    let peers = settings.peer_lanes(alloc, config)?;
+    let readiness = Readiness::new(alloc, config, peers.as_slice())?;
     let spells = Vec::from_elem(alloc, None, PLACES)?;
-    let audience = audience_over(opened, ports, seats)?;
-    match station_over(opened) {
+    let audience = audience_over(opened, ports)?;
+    match station_over(opened, common) {
         Ok(station) => Ok(Server {
             rt: opened.rt,
             alloc,
-            desk: opened.desk,
+            shared: left_of(opened),
+            settings: CommandSettings {
+                abandons_full: settings.station.abandon_full,
+                logs_commands: settings.log.commands,
+                explains: opened.control.is_some(),
+                started: Moment(wall_moment(opened.rt)),
+            },
             steps,
             station,
-            numbers,
+            numbers: Numbers { held: numbers },
             audience,
-            seats,
-            depot: opened.depot,
-            tallies: opened.tallies,
-            outgoing,
-            held,
+            outbox: Outbox {
+                outgoing,
+                held,
+                begun,
+            },
             windows: Windows::new(alloc),
-            begun,
-            abandons_full: words.abandon_full,
-            logs_commands: words.log_commands,
-            explains: words.explain,
             readiness,
             opened: None,
-            lot: opened.lot,
             spells,
-            started: Moment(wall_moment(opened.rt)),
         }),
         Err(fault) => Err(fault),
+    }
+}
+
+// Where the threads of a server leave things for each other.
+fn left_of<'x, N: Names, R: Copy, F>(opened: &Opened<'x, N, R, F>) -> Shared<'x> {
+    Shared {
+        desk: opened.desk,
+        seats: opened.control.map(|control| control.seats),
+        depot: opened.depot,
+        lot: opened.lot,
+        tallies: opened.tallies,
     }
 }
 
@@ -388,55 +293,39 @@ fn server_over<'x, N: Names, R: Wait + Clock + Files + AllocGlobal + Copy + Drop
 fn audience_over<'x, N: Names, R: Wait + Clock + Files + Copy, F>(
     opened: &Opened<'x, N, R, F>,
     ports: Vec<UserPort>,
-    seats: Option<&'x Seats>,
 ) -> Result<Audience<'x, R>, AllocError> {
-    let words = opened.words;
     let (rt, alloc, config) = (opened.rt, opened.alloc, opened.entity.config());
-    let events = events_of::<R>(alloc, words, seats)?;
+    let seats = opened.control.map(|control| control.seats);
+    let events = events_of::<R>(alloc, &opened.settings.log, seats)?;
     let reports = Reports::new(rt, alloc, config, opened.tallies, events, opened.lot)?;
-    let follows = words.follow && seats.is_none();
     let watched = Watched::new(alloc, config, opened.book)?;
-    let mut audience = Audience::new(rt, alloc, ports, follows, reports, watched);
-    audience.counts = counts_of(alloc, words, config, opened.tallies)?;
+    let mut audience = Audience::new(rt, alloc, ports, false, reports, watched);
+    audience.counts = counts_of(alloc, seats.is_some(), config, opened.tallies)?;
     Ok(audience)
 }
 
-// The station of a server, with its store, and its links as the words say.
+// The station of a server, with its store, and its links as the settings say.
 fn station_over<'x, N: Names, R: Wait + Clock + Files + AllocGlobal + Copy + Drop, F>(
     opened: &Opened<'x, N, R, F>,
+    common: &Common<'x, N, R>,
 ) -> Result<Station<'x, N, R>, ProgramFault> {
-    let Opened {
-        rt,
-        alloc,
-        entity,
-        socket,
-        depot,
-        tallies,
-        words,
-        ..
-    } = *opened;
-    let sender = PduSender::new(alloc, socket, entity.config(), &tallies.own, &tallies.links)?;
-    let common = common_of(opened);
-    let mut station = Station::new(&common, sender, depot, tallies, rest_of(words))?;
-    set_links(rt, &mut station, words);
+    let (tallies, settings) = (opened.tallies, opened.settings);
+    let config = opened.entity.config();
+    let sender = PduSender::new(
+        opened.alloc,
+        opened.socket,
+        config,
+        &tallies.own,
+        &tallies.links,
+    )?;
+    let rest = match settings.sending.rate {
+        0 => None,
+        rate => Some(rate),
+    };
+    let mut station = Station::new(common, sender, opened.depot, tallies, rest)?;
+    set_links(opened.rt, &mut station, settings);
     if let Some(lot) = parking_of(opened) {
         station.use_lot(lot);
     }
     Ok(station)
-}
-
-// What the thread that stores received files begins with.
-fn storing_over<'x, N: Names, R: Copy, F>(
-    opened: &Opened<'x, N, R, F>,
-) -> Result<FolderStoring<'x, N, R>, AllocError> {
-    let folder = String::from_str(opened.alloc, opened.words.folder)?;
-    Ok(FolderStoring {
-        rt: opened.rt,
-        alloc: opened.alloc,
-        entity: opened.entity,
-        desk: opened.desk,
-        depot: opened.depot,
-        words: opened.words,
-        folder,
-    })
 }

@@ -3,9 +3,14 @@ use crate::console::Console;
 use program_desk::{AskedLine, NextLine, Said, moment};
 use program_seats::{Asker, RESERVED_OCTETS};
 use program_start::ProgramFault;
-use program_station::{MainThread, REST_MS};
+use program_station::REST_MS;
+use program_threads::MainThread;
 use server_answers::push_no_memory;
-use server_commands::{Next, Server};
+use server_commands::{
+    Next, Server, Working, end, end_storing, obey, record_ended, report_command, rest, settle,
+    turn, unread_of, words_of,
+};
+use server_followers::waits_for_followers;
 use server_reports::Audience;
 use shared_lanes::Names;
 use std::alloc::AllocError;
@@ -15,7 +20,7 @@ use std::sync::Wait;
 use std::thread;
 use std::time::{Clock, Duration};
 
-// How many rounds of bundles, one of each user, are printed at once, and after how many octets no round begins.
+// How many rounds of bundles, one of each user, are taken in a turn at most, and after how many octets none is taken.
 const ROUNDS: usize = 256;
 
 const PRINTED_OCTETS: usize = 65_536;
@@ -35,10 +40,41 @@ impl<'a, N: Names, R: Wait + Clock + Files + AllocGlobal + Copy + Drop, W: Write
     /// Works in turns until `quit` or the end of the commands. A turn handles at most one command, and a few timers,
     /// parked datagrams and PDUs of files under way.
     fn work(self) -> Result<u8, ProgramFault> {
-        let Serving { server, console } = self;
-        let mut server = server;
-        let mut console = console;
-        status_of(work(&mut server, &mut console))
+        let Serving {
+            server,
+            mut console,
+        } = self;
+        let Server {
+            rt,
+            alloc,
+            shared,
+            settings,
+            mut steps,
+            mut station,
+            mut numbers,
+            mut audience,
+            mut outbox,
+            mut windows,
+            mut readiness,
+            mut opened,
+            mut spells,
+        } = server;
+        let mut work = Working {
+            rt,
+            alloc,
+            shared,
+            settings,
+            steps: &mut steps,
+            station: &mut station,
+            numbers: &mut numbers,
+            audience: &mut audience,
+            outbox: &mut outbox,
+            windows: &mut windows,
+            readiness: &mut readiness,
+            opened: &mut opened,
+            spells: &mut spells,
+        };
+        status_of(run(&mut work, &mut console))
     }
 }
 
@@ -50,77 +86,88 @@ fn status_of(ended: Result<(), ProgramFault>) -> Result<u8, ProgramFault> {
     }
 }
 
-fn work<N: Names, R: Wait + Clock + Files + AllocGlobal + Copy + Drop, W: Write + Drop>(
-    server: &mut Server<'_, N, R>,
+fn run<N: Names, R: Wait + Clock + Files + AllocGlobal + Copy + Drop, W: Write + Drop>(
+    work: &mut Working<'_, '_, N, R>,
     console: &mut Console<'_, W>,
 ) -> Result<(), ProgramFault> {
-    let rt = server.rt;
-    let mut text = String::with_capacity(server.alloc, RESERVED_OCTETS)?;
-    server.audience.reports.start();
+    let rt = work.rt;
+    let mut text = String::with_capacity(work.alloc, RESERVED_OCTETS)?;
+    work.audience.reports.start();
     for _ in rt.forever() {
-        let has_settled = server.settle();
-        if !server.station.is_settled() {
+        let has_settled = settle(work);
+        if !work.station.is_settled() {
             thread::sleep(rt, Duration::from_millis(REST_MS));
             continue;
         }
         text.clear();
-        server.audience.reports.begin_turn();
-        let (has_answered, next) = answer_next(server, console, &mut text)?;
+        work.audience.reports.begin_turn();
+        let (has_answered, next) = answer_next(work, console, &mut text)?;
         if next == Next::Quits {
             break;
         }
         let now = moment(rt);
-        let waits = server.waits_for_followers(now);
-        let has_received = !waits && receive(rt, &mut server.audience, console, &mut text)?;
+        let waits = waits(work, now);
+        let has_received = !waits && receive(rt, work.audience, console, &mut text)?;
         if has_received {
-            server.station.hear_of_room();
+            work.station.hear_of_room();
         }
-        let has_worked = server.turn(now);
+        let has_worked = turn(work, now);
         if !has_settled && !has_answered && !has_received && !has_worked {
-            server.rest(now, waits);
+            rest(work, now, waits);
         }
     }
-    server.end_storing();
-    receive_last(server, console, &mut text)?;
-    server.end();
+    end_storing(work);
+    receive_last(work, console, &mut text)?;
+    end(work);
     Ok(())
+}
+
+// Whether users' bundles wait at a moment for a client that follows.
+fn waits<N: Names, R: Wait + Clock + Files + AllocGlobal + Copy + Drop>(
+    work: &mut Working<'_, '_, N, R>,
+    now: u64,
+) -> bool {
+    match work.shared.seats {
+        Some(seats) => waits_for_followers(work.rt, seats, work.spells, now),
+        None => false,
+    }
 }
 
 // Takes what users received up to the end, if it is reported, recorded or counted.
 fn receive_last<N: Names, R: Wait + Clock + Files + AllocGlobal + Copy + Drop, W: Write + Drop>(
-    server: &mut Server<'_, N, R>,
+    work: &mut Working<'_, '_, N, R>,
     console: &mut Console<'_, W>,
     text: &mut String,
 ) -> Result<(), ProgramFault> {
-    if !server.audience.is_reported() {
+    if !work.audience.is_reported() {
         return Ok(());
     }
     for _ in 0..LAST_RECEIPTS {
-        server.audience.reports.begin_turn();
-        if !receive(server.rt, &mut server.audience, console, text)? {
+        work.audience.reports.begin_turn();
+        if !receive(work.rt, work.audience, console, text)? {
             break;
         }
-        server.record_ended();
+        record_ended(work);
     }
     Ok(())
 }
 
 // Replies to the next command, if there is one. Returns whether there was one, and whether the server goes on.
 fn answer_next<N: Names, R: Wait + Clock + Files + AllocGlobal + Copy + Drop, W: Write + Drop>(
-    server: &mut Server<'_, N, R>,
+    work: &mut Working<'_, '_, N, R>,
     console: &mut Console<'_, W>,
     text: &mut String,
 ) -> Result<(bool, Next), ProgramFault> {
-    if prints_recording(server, text) {
+    if prints_recording(work, text) {
         let has_printed = !text.is_empty();
         if !has_printed {
-            thread::sleep(server.rt, Duration::from_millis(REST_MS));
+            thread::sleep(work.rt, Duration::from_millis(REST_MS));
         }
-        console.answer(server.rt, None, text)?;
+        console.answer(work.rt, None, text)?;
         text.clear();
         return Ok((has_printed, Next::GoesOn));
     }
-    let asked = match server.desk.take_line(server.rt) {
+    let asked = match work.shared.desk.take_line(work.rt) {
         NextLine::Line(asked) => asked,
         NextLine::Awaited => return Ok((false, Next::GoesOn)),
         NextLine::End => return Ok((false, Next::Quits)),
@@ -128,12 +175,12 @@ fn answer_next<N: Names, R: Wait + Clock + Files + AllocGlobal + Copy + Drop, W:
         NextLine::Deserted => return Err(ProgramFault::Start),
     };
     let AskedLine { said, asker } = asked;
-    let next = obey(server, said, asker, text)?;
+    let next = obey_reported(work, said, asker, text)?;
     if next != Next::Later {
-        console.answer(server.rt, asker, text)?;
+        console.answer(work.rt, asker, text)?;
     }
-    if let (Next::Follows(asker, most, least), Some(seats)) = (next, server.seats) {
-        server.audience.follow(seats, asker, most, least);
+    if let (Next::Follows(asker, most, least), Some(seats)) = (next, work.shared.seats) {
+        work.audience.follow(seats, asker, most, least);
     }
     text.clear();
     Ok((true, next))
@@ -142,10 +189,10 @@ fn answer_next<N: Names, R: Wait + Clock + Files + AllocGlobal + Copy + Drop, W:
 // Adds the next piece of a recording that is to be printed, and returns whether one is. If memory for the piece runs
 // out, it is printed later.
 fn prints_recording<N: Names, R: Wait + Clock + Files + AllocGlobal + Copy + Drop>(
-    server: &mut Server<'_, N, R>,
+    work: &mut Working<'_, '_, N, R>,
     text: &mut String,
 ) -> bool {
-    match server.print_recording(text) {
+    match work.audience.watched.print_recording(work.rt, text) {
         Ok(prints) => prints,
         Err(AllocError) => {
             text.clear();
@@ -155,15 +202,15 @@ fn prints_recording<N: Names, R: Wait + Clock + Files + AllocGlobal + Copy + Dro
 }
 
 // Does what a line says, and reports it, if that is wanted. If memory for the reply runs out, the reply says so.
-fn obey<N: Names, R: Wait + Clock + Files + AllocGlobal + Copy + Drop>(
-    server: &mut Server<'_, N, R>,
+fn obey_reported<N: Names, R: Wait + Clock + Files + AllocGlobal + Copy + Drop>(
+    work: &mut Working<'_, '_, N, R>,
     said: Said,
     asker: Option<Asker>,
     text: &mut String,
 ) -> Result<Next, AllocError> {
-    let words = server.words_of(&said);
-    let mut unread = server.unread_of(&said);
-    let next = match server.obey(said, asker, text) {
+    let words = words_of(work, &said);
+    let mut unread = unread_of(work, &said);
+    let next = match obey(work, said, asker, text) {
         Ok(next) => next,
         Err(AllocError) => {
             text.clear();
@@ -172,7 +219,8 @@ fn obey<N: Names, R: Wait + Clock + Files + AllocGlobal + Copy + Drop>(
             Next::GoesOn
         }
     };
-    server.report_command(words.as_slice(), asker, text, unread);
+    let reports = &mut work.audience.reports;
+    report_command(reports, words.as_slice(), asker, text, unread);
     Ok(next)
 }
 
@@ -189,9 +237,7 @@ fn receive<R: Wait + Clock + Files, W: Write + Drop>(
     }
     let mut has_received = false;
     for _ in 0..ROUNDS {
-        if text.len().max(audience.reports.octets()) >= PRINTED_OCTETS
-            || !audience.receive_each(text)?
-        {
+        if !audience.receive_each(text, PRINTED_OCTETS)? {
             break;
         }
         has_received = true;

@@ -257,6 +257,13 @@ impl Session {
         Ok(())
     }
 
+    /// Drops the messages that were added for the next Put.
+    pub fn forget_messages(&mut self, alloc: Global)
+        ensures { self.new ≡ record self.old { messages = [] } }
+    {
+        self.messages = Messages::new(alloc);
+    }
+
     /// Makes a Put request with the messages that were added. They are gone afterwards, whatever the result.
     pub fn put(&mut self, alloc: Global, order: &Order<'_>) -> Result<PutRequest, PutFault>
         ensures made { IfOk result (λ put. put ≡ put_of order.now self.old.messages) }

@@ -29,6 +29,24 @@ fn add_to_both(alloc: Global) -> Result<bool, AllocError> {
     Ok(adds(&mut gaps)? && adds(&mut copy)?)
 }
 
+// Ranges that join or overlap what lies from an offset on.
+fn merge_two_ranges(alloc: Global) -> Result<bool, AllocError> {
+    let mut gaps = Gaps::new(alloc);
+    cover_two_ranges(&mut gaps)?;
+    let merged = gaps.merged(
+        2,
+        [Run { start: 4, end: 6 }, Run { start: 9, end: 13 }].as_slice(),
+    )?;
+    let missing = merged.missing(13)?;
+    Ok(missing.as_slice() == [Run { start: 0, end: 2 }, Run { start: 6, end: 8 }].as_slice())
+}
+
+#[test]
+fn ranges_merged_with_two_runs(rt: HostRuntime) -> Result<(), Fail> {
+    assert!(rt; merge_two_ranges(rt.alloc())?);
+    Ok(())
+}
+
 #[test]
 fn range_over_two_runs(rt: HostRuntime) -> Result<(), Fail> {
     assert!(rt; add_to_both(rt.alloc())?);

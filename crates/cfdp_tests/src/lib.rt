@@ -1,7 +1,8 @@
-//! Public calls of the crates with types, sets, words, timers, configurations, stores and scripts, as their callers see
-//! them.
+//! Public calls of the crates with types, sets, words, configurations, stores and scripts, as their callers see them.
 #![tactic(auto)]
 
+#[cfg(test)]
+mod broken_ends;
 #[cfg(test)]
 mod configs;
 #[cfg(test)]
@@ -11,11 +12,7 @@ mod lines;
 #[cfg(test)]
 mod outputs;
 #[cfg(test)]
-mod stations;
-#[cfg(test)]
 mod stores;
-#[cfg(test)]
-mod timers;
 #[cfg(test)]
 mod types;
 #[cfg(test)]

@@ -39,8 +39,8 @@ pub fn read_parts(alloc: Global, text: &str) -> Result<ConfigParts, ConfigFault>
     }
 }
 
-// The parts that the top-level table gives.
-fn parts_in(alloc: Global, table: &Table) -> Result<ConfigParts, ConfigFault>
+/// Reads the parts of a configuration from the top-level table of a text in TOML, as [`read_parts`] does from the text.
+pub fn parts_in(alloc: Global, table: &Table) -> Result<ConfigParts, ConfigFault>
     ensures parts { Reads parts_shown result (config_in (table_view table.now)) }
     ensures limits { IfOk result (λ parts. IsTrue (is_config (parts_shown parts))) }
 {

@@ -1,8 +1,9 @@
 //! The watched folder, and its folders for files that have ended.
-use ctl_watch::{Sight, is_left_alone, is_same, kept_name, why_name};
+use ctl_watch::{Mark, is_alike, is_left_alone, kept_name, why_name};
 use std::alloc::{AllocError, Global};
 use std::fs::{Metadata, OpenOptions};
 use std::io::{ErrorKind, Write};
+use std::os::unix::fs::MetadataExt;
 use std::rt::Files;
 use std::time::UNIX_EPOCH;
 use std::{fs, io};
@@ -19,8 +20,7 @@ const NAMES: u64 = 10_000;
 #[derive(Drop)]
 pub struct Found {
     pub name: String,
-    pub size: u64,
-    pub modified: u64,
+    pub mark: Mark,
 }
 
 /// What is in the folder.
@@ -67,12 +67,19 @@ fn add(
     }
     let found = Found {
         name: String::from_str(alloc, name)?,
-        size: metadata.len(),
-        modified: written_at(metadata),
+        mark: mark_of(metadata),
     };
     match listing.files.push(found) {
         Ok(()) => Ok(()),
         Err(_) => Err(AllocError),
+    }
+}
+
+fn mark_of(metadata: &Metadata) -> Mark {
+    Mark {
+        size: metadata.len(),
+        modified: written_at(metadata),
+        inode: metadata.ino(),
     }
 }
 
@@ -87,22 +94,10 @@ fn written_at(metadata: &Metadata) -> u64 {
     }
 }
 
-/// Whether a file of the folder is still as it was seen.
-pub fn is_unchanged<R: Files>(
-    rt: &R,
-    alloc: Global,
-    folder: &str,
-    name: &str,
-    sight: Sight,
-) -> Result<bool, AllocError> {
-    let path = format!(in alloc; "{folder}/{name}")?;
-    Ok(is_as_seen(rt, path.as_str(), sight) == Some(true))
-}
-
-// Whether a file is as it was seen; `None` if there is none.
-fn is_as_seen<R: Files>(rt: &R, path: &str, sight: Sight) -> Option<bool> {
+/// How a file is now; `None` if there is none.
+pub fn mark_at<R: Files>(rt: &R, path: &str) -> Option<Mark> {
     match fs::symlink_metadata(rt, path) {
-        Ok(metadata) => Some(is_same(sight, metadata.len(), written_at(&metadata))),
+        Ok(metadata) => Some(mark_of(&metadata)),
         Err(_) => None,
     }
 }
@@ -114,14 +109,14 @@ pub fn was_sent<R: Files>(
     alloc: Global,
     folder: &str,
     name: &str,
-    sight: Sight,
+    mark: Mark,
 ) -> Result<bool, AllocError> {
     for number in 1..=NAMES {
         let name = kept_name(alloc, name, number)?;
         let path = format!(in alloc; "{folder}/{SENT}/{name}")?;
-        match is_as_seen(rt, path.as_str(), sight) {
-            Some(false) => {}
-            Some(true) => return Ok(true),
+        match mark_at(rt, path.as_str()) {
+            Some(kept) if is_alike(mark, kept) => return Ok(true),
+            Some(_) => {}
             None => break,
         }
     }
@@ -142,7 +137,7 @@ pub fn make_folders<R: Files>(rt: &R, alloc: Global, folder: &str) -> io::Result
 
 /// Moves a file of the folder into one of those folders, under the first of its names that is free. If there is a
 /// reason, first writes that into another file beside it, whose name is free as well. The reason goes again if the file
-/// can't be moved.
+/// can't be moved. Returns the path at which the file is kept.
 pub fn keep_file<R: Files>(
     rt: &R,
     alloc: Global,
@@ -150,21 +145,45 @@ pub fn keep_file<R: Files>(
     name: &str,
     into: &str,
     reason: Option<&str>,
-) -> io::Result<()> {
+) -> io::Result<String> {
     make_folders(rt, alloc, folder)?;
     let old = format!(in alloc; "{folder}/{name}")?;
     let into = format!(in alloc; "{folder}/{into}")?;
     let path = free_path(rt, alloc, into.as_str(), name, reason.is_some())?;
     let Some(text) = reason else {
-        return fs::rename(rt, old.as_str(), path.as_str());
+        fs::rename(rt, old.as_str(), path.as_str())?;
+        return Ok(path);
     };
     let why = why_name(alloc, path.as_str())?;
     write_new(rt, why.as_str(), text)?;
-    let moved = fs::rename(rt, old.as_str(), path.as_str());
-    if moved.is_err() {
-        let _as_it_may = fs::remove_file(rt, why.as_str());
+    match fs::rename(rt, old.as_str(), path.as_str()) {
+        Ok(()) => Ok(path),
+        Err(error) => {
+            let _as_it_may = fs::remove_file(rt, why.as_str());
+            Err(error)
+        }
     }
-    moved
+}
+
+/// Moves a file from a path back into the folder, under the first of its names that is free.
+pub fn take_back<R: Files>(
+    rt: &R,
+    alloc: Global,
+    folder: &str,
+    name: &str,
+    path: &str,
+) -> io::Result<()> {
+    for number in 1..=NAMES {
+        let name = kept_name(alloc, name, number)?;
+        let back = format!(in alloc; "{folder}/{name}")?;
+        // others write into the folder, and a link takes no file's place
+        match fs::hard_link(rt, path, back.as_str()) {
+            Ok(()) => return fs::remove_file(rt, path),
+            Err(error) if error.kind() == ErrorKind::AlreadyExists => {}
+            Err(_) => return fs::rename(rt, path, back.as_str()),
+        }
+    }
+    Err(ErrorKind::AlreadyExists.into())
 }
 
 // A free path in a folder, by the first of a file's names that is free, and whose reason's name is, if it has one.

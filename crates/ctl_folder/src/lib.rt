@@ -3,8 +3,12 @@
 
 mod files;
 mod folder;
+mod kept;
+mod reading;
 
-pub use files::HotFiles;
+pub use files::{HotFile, HotFiles, Place};
 pub use folder::{
-    FAILED, Found, Listing, SENT, is_unchanged, keep_file, list, make_folders, was_sent,
+    FAILED, Found, Listing, SENT, keep_file, list, make_folders, mark_at, take_back, was_sent,
 };
+pub use kept::{KeptFile, KeptFiles};
+pub use reading::path_being_read;

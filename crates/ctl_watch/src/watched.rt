@@ -1,7 +1,7 @@
 //! Which files of a folder are sent next.
 ghost use Rattle.std.specs.Prelude.{◌≡◌};
 ghost use Rattle.std.specs.List.{count_by, position};
-ghost use Rattle.ctl_watch.specs.Watching.{is_ready, is_same, is_steady, is_under_way, is_waiting, next_to_send, sight_now, standing_now, watched_now};
+ghost use Rattle.ctl_watch.specs.Watching.{is_alike, is_ready, is_renamed, is_same, is_steady, is_under_way, is_waiting, next_to_send, sight_now, standing_now, watched_now};
 
 // How many milliseconds a file has to stay as it is before it is sent.
 const QUIET: u64 = 2_000;
@@ -9,12 +9,20 @@ const QUIET: u64 = 2_000;
 // How many files may be under way at once.
 const MOST: u64 = 64;
 
-/// A file of the folder as it was seen.
+/// What tells one content of a file from another.
 #[derive(Clone, Copy)]
-pub struct Sight {
+pub struct Mark {
     pub size: u64,
     /// When it was written, on the clock of its disk.
     pub modified: u64,
+    /// Its number on its disk, which it keeps under another name.
+    pub inode: u64,
+}
+
+/// A file of the folder as it was seen.
+#[derive(Clone, Copy)]
+pub struct Sight {
+    pub mark: Mark,
     /// Since when it has been so, in milliseconds of the watcher's clock.
     pub since: u64,
 }
@@ -37,50 +45,42 @@ pub struct Watched {
     pub standing: Standing,
 }
 
-/// A file that is seen now with this size and time, given what was known of it before.
-pub fn watched_now(before: Option<Watched>, size: u64, modified: u64, now: u64) -> Watched
-    ensures { result ≡ watched_now before size modified now }
+/// A file that is seen now, given what was known of it before.
+pub fn watched_now(before: Option<Watched>, mark: Mark, now: u64) -> Watched
+    ensures { result ≡ watched_now before mark now }
 {
     match before {
         Some(watched) => Watched {
-            sight: sight_now(watched.sight, size, modified, now),
-            standing: standing_now(watched, size, modified),
+            sight: sight_now(watched.sight, mark, now),
+            standing: standing_now(watched, mark),
         },
         None => Watched {
-            sight: Sight {
-                size,
-                modified,
-                since: now,
-            },
+            sight: Sight { mark, since: now },
             standing: Standing::Waiting,
         },
     }
 }
 
 // A file that was seen before.
-fn sight_now(before: Sight, size: u64, modified: u64, now: u64) -> Sight
-    ensures { result ≡ sight_now before size modified now }
+fn sight_now(before: Sight, mark: Mark, now: u64) -> Sight
+    ensures { result ≡ sight_now before mark now }
 {
-    if is_same(before, size, modified) {
+    if is_same(before.mark, mark) {
         before
     } else {
-        Sight {
-            size,
-            modified,
-            since: now,
-        }
+        Sight { mark, since: now }
     }
 }
 
 // Where a file that was seen before stands: one that wasn't sent waits again once it changes.
-fn standing_now(before: Watched, size: u64, modified: u64) -> Standing
-    ensures { result ≡ standing_now before size modified }
+fn standing_now(before: Watched, mark: Mark) -> Standing
+    ensures { result ≡ standing_now before mark }
 {
     match before.standing {
         Standing::Waiting => Standing::Waiting,
         Standing::UnderWay => Standing::UnderWay,
         Standing::Refused => {
-            if is_same(before.sight, size, modified) {
+            if is_same(before.sight.mark, mark) {
                 Standing::Refused
             } else {
                 Standing::Waiting
@@ -89,11 +89,25 @@ fn standing_now(before: Watched, size: u64, modified: u64) -> Standing
     }
 }
 
-/// Whether a file is as it was seen.
-pub fn is_same(sight: Sight, size: u64, modified: u64) -> bool
-    ensures { result ≡ is_same sight size modified }
+/// Whether a file is the one that was seen, and unchanged.
+pub fn is_same(before: Mark, mark: Mark) -> bool
+    ensures { result ≡ is_same before mark }
 {
-    sight.size == size && sight.modified == modified
+    is_alike(before, mark) && before.inode == mark.inode
+}
+
+/// Whether a file, or a copy of it that keeps its time, is as it was seen.
+pub fn is_alike(before: Mark, mark: Mark) -> bool
+    ensures { result ≡ is_alike before mark }
+{
+    before.size == mark.size && before.modified == mark.modified
+}
+
+/// Whether a file under another name is this one, renamed while it is under way.
+pub fn is_renamed(file: Watched, mark: Mark) -> bool
+    ensures { result ≡ is_renamed file mark }
+{
+    is_under_way(file) && file.sight.mark.inode == mark.inode
 }
 
 /// The place of the file sent next, in the order of the list; `None` if none is ready, or if as many files as allowed

@@ -13,6 +13,10 @@ is_inner octet = not ((octet == 32) || (octet == 10))
 abbrev pub is_word : List ℕ → Bool
 is_word text = if length text == 0 then false else list_all is_inner text
 
+-- a path or a name at the receiver is longer than a command takes
+abbrev pub has_long_name : List ℕ → List ℕ → Bool
+has_long_name source target = nat_lt 255 (length source) || nat_lt 255 (length target)
+
 -- a number is within a range
 abbrev pub IsWithin : ℕ → ℕ → ℕ → Type 0
 IsWithin least most number = (least ≤ number) × (number ≤ most)

@@ -50,7 +50,10 @@ fn with_send<'a>(alloc: Global, command: Command<'a>) -> Result<Command<'a>, All
         .arg(flag(alloc, "urgent"))?
         .arg(valued(alloc, "into"))?
         .arg(flag(alloc, "wait"))?
-        .arg(flag(alloc, "once"))
+        .arg(valued(alloc, "retry"))?
+        .arg(flag(alloc, "recursive").short('r'))?
+        .arg(flag(alloc, "once"))?
+        .arg(flag(alloc, "delete"))
 }
 
 // The options that choose transactions, of `status`, `history` and of commands for transactions.

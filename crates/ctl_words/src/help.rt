@@ -20,6 +20,9 @@ Commands:
       --watch                refreshes each second
       --failed               only the transactions that failed
       --remote R             leaves out transactions, files and links of other entities
+  check                      prints one line for monitoring: OK, WARNING (links held, transactions that failed,
+                             received files that can't be stored, a log that can't be written) or
+                             CRITICAL (the outbox is full, or no server answers)
   follow [--json] [--user U] [--transaction SOURCE.SEQ] [--last N] [--level L] [--follow-again]
                              prints a line for each event as it happens
       --json                 prints the JSON events as received
@@ -29,7 +32,8 @@ Commands:
       --level L              events of a level and above: detail, info or warning (default: info, which
                              leaves out the pieces of files; with --json all)
       --follow-again         if the server goes away, waits for the next one and follows that
-  send --to REMOTE [--user U] [--class N] [--closure] [--urgent] [--into FOLDER] [--wait] FILE..
+  send --to REMOTE [--user U] [--class N] [--closure] [--urgent] [--into FOLDER] [--wait] [--retry N]
+                             [-r, --recursive] FILE..
                              puts files in the outbox, each under its own name; the receiver doesn't
                              learn any folder of this machine
       --to REMOTE            the receiving entity
@@ -40,13 +44,17 @@ Commands:
       --urgent               before the user's other files, unless these are urgent too
       --into FOLDER          a folder at the receiver
       --wait                 waits until each file has ended
-  watch FOLDER --to REMOTE [--user U] [--class N] [--into FOLDER] [--once]
+      --retry N              with --wait: sends a file that didn't arrive up to N times again
+      -r, --recursive        a folder stands for its files and those of the folders below it, named
+                             relative to it
+  watch FOLDER --to REMOTE [--user U] [--class N] [--into FOLDER] [--once] [--delete]
                              sends each file that comes into a folder, in the order of their names. A
                              file that has arrived is moved to the subfolder sent, any other to failed,
                              with the reason beside it. Names that begin with a dot are left alone
       --to REMOTE, --user U, --class N, --into FOLDER
                              as for send
       --once                 ends when no file is left to send
+      --delete               deletes a file that has arrived after ten seconds in sent
   outbox [--json]            prints the files that wait, with their numbers
   drop NUMBER                takes a file out of the outbox
   hold REMOTE, hold all      holds the link to an entity, or each link: nothing is sent there
@@ -64,8 +72,8 @@ Commands:
       --user U               those of this user
       --yes                  doesn't ask
   history --log FILE.. [--since T] [--remote R] [--failed] [--json]
-                             prints a line for each transaction that ended, from files that the server
-                             wrote by --log, and their sums; needs no server
+                             prints a line for each transaction that ended, from files of the server's
+                             log, and their sums; needs no server
       --since T              those that ended since a moment in UTC: 2026-11-26, or 2026-11-26T12:00:00Z
       --remote R             those with this entity at the other end
       --failed               those that failed
@@ -77,7 +85,8 @@ Commands:
 Status 0: the server took the command, or each of them; with send --wait or watch --once, each file
 arrived. 1: no server answers, or it went away. 2: the command line is wrong. 3: the server refused a
 command, a line wasn't a command, a file doesn't exist or can't be read, or a number can't be kept. 4:
-with send --wait or watch --once, a file didn't arrive.
+with send --wait or watch --once, a file didn't arrive. With check: 0 for OK, 1 for WARNING, 2 for
+CRITICAL.
 ";
 
 /// What `--help` prints.

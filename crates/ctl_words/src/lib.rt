@@ -17,7 +17,7 @@ pub use fault::WordsFault;
 pub use help::{ctl_help, ctl_version};
 pub use reading::ctl_words;
 pub use sending::{SendCommand, send_command};
-pub use text::command_text;
+pub use text::{COMMAND_OCTETS, command_text, has_long_name, is_too_long};
 pub use words::{
     ActWords, Choice, Colour, CtlWords, FollowWords, HistoryWords, OutboxWords, SendWords,
     StatusWords, Task, TransactionWord, Verb, WatchWords,

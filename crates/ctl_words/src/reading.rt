@@ -34,9 +34,22 @@ const FOLLOW_OPTIONS: [&str; 6] = [
 
 const OUTBOX_OPTIONS: [&str; 1] = ["json"];
 
-const SEND_OPTIONS: [&str; 7] = ["user", "to", "class", "closure", "urgent", "into", "wait"];
+const SEND_OPTIONS: [&str; 9] = [
+    "user",
+    "to",
+    "class",
+    "closure",
+    "urgent",
+    "into",
+    "wait",
+    "retry",
+    "recursive",
+];
 
-const TASK_OPTIONS: [&str; 20] = [
+// The most times that a file is sent again.
+const MOST_RETRIES: u64 = 1_000;
+
+const TASK_OPTIONS: [&str; 23] = [
     "json",
     "watch",
     "user",
@@ -47,7 +60,10 @@ const TASK_OPTIONS: [&str; 20] = [
     "urgent",
     "into",
     "wait",
+    "retry",
+    "recursive",
     "once",
+    "delete",
     "last",
     "level",
     "follow-again",
@@ -146,6 +162,7 @@ fn task_by<'a>(
         ["outbox", others @ ..] => outbox_task(alloc, matches, others),
         ["send", files @ ..] => send_task(alloc, matches, files),
         ["watch", folders @ ..] => watch_task(alloc, matches, folders),
+        ["check", others @ ..] => check_task(alloc, matches, others),
         ["journal", word] => journal_task(alloc, matches, word),
         ["history", logs @ ..] => history_task(alloc, matches, logs),
         [name, ..] => match act_asked(alloc, matches, words)? {
@@ -235,6 +252,16 @@ fn outbox_task<'a>(
     }))
 }
 
+fn check_task<'a>(
+    alloc: Global,
+    matches: &ArgMatches<'a>,
+    others: &[&str],
+) -> Result<Task<'a>, WordsFault> {
+    only_options(alloc, matches, "check", &[])?;
+    no_words(alloc, "check", others)?;
+    Ok(Task::Check)
+}
+
 fn send_task<'a>(
     alloc: Global,
     matches: &ArgMatches<'a>,
@@ -243,6 +270,7 @@ fn send_task<'a>(
     only_options(alloc, matches, "send", &SEND_OPTIONS)?;
     let remote = number_of(alloc, matches, "to", 0, u64::MAX)?;
     let class = number_of(alloc, matches, "class", 1, 2)?;
+    let retries = retries_asked(alloc, matches)?;
     match remote {
         Some(remote) if !files.is_empty() => Ok(Task::Send(SendWords {
             remote,
@@ -252,9 +280,20 @@ fn send_task<'a>(
             is_urgent: matches.get_flag("urgent"),
             into: matches.get_str("into"),
             wait: matches.get_flag("wait"),
+            retries,
+            recursive: matches.get_flag("recursive"),
             files: Vec::from_slice(alloc, files)?,
         })),
         _ => Err(usage(String::from_str(alloc, "error: send needs --to REMOTE, and files\n"))),
+    }
+}
+
+// How often a file is sent again, which only somebody knows who waits for its end.
+fn retries_asked(alloc: Global, matches: &ArgMatches<'_>) -> Result<u64, WordsFault> {
+    match number_of(alloc, matches, "retry", 0, MOST_RETRIES)? {
+        None => Ok(0),
+        Some(retries) if matches.get_flag("wait") => Ok(retries),
+        Some(_) => Err(usage(String::from_str(alloc, "error: --retry needs --wait\n"))),
     }
 }
 
@@ -352,7 +391,9 @@ fn is_given(matches: &ArgMatches<'_>, option: &str) -> bool {
             | "closure"
             | "urgent"
             | "wait"
+            | "recursive"
             | "once"
+            | "delete"
             | "failed"
             | "all"
             | "yes"

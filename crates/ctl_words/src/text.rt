@@ -1,9 +1,29 @@
 //! Makes the text of a command.
-ghost use Rattle.std.specs.Prelude.{◌≡◌, IfOk, IfSome, codes, is_some, string_bytes};
+ghost use Rattle.std.specs.Prelude.{◌≡◌, IfOk, IfSome, codes, is_some, length, nat_le, nat_lt, string_bytes};
 ghost use Rattle.std.specs.List.{join_by, list_all};
-ghost use Rattle.ctl_words.specs.Commands.{is_inner, is_word};
+ghost use Rattle.ctl_words.specs.Commands.{has_long_name, is_inner, is_word};
 
 use std::alloc::{AllocError, Global};
+
+/// How many octets a server's command may have, line feed included.
+pub const COMMAND_OCTETS: u64 = 131_072;
+
+// How many octets a path and a file's name may have in a command.
+const NAME_OCTETS: usize = 255;
+
+/// Whether a command, given without its line feed, is too long for a server.
+pub fn is_too_long(command: &[u8]) -> bool
+    ensures { result ≡ nat_le 131072 (length command.now) }
+{
+    command.len() as u64 >= COMMAND_OCTETS
+}
+
+/// Whether a file's path or its name at the receiver is too long for a command.
+pub fn has_long_name(source: &str, target: &str) -> bool
+    ensures { result ≡ has_long_name source.now target.now }
+{
+    source.len() > NAME_OCTETS || target.len() > NAME_OCTETS
+}
 
 /// The text of a command with these words, separated by spaces. `None` if one of them is empty, or has a space or a
 /// line feed, so that a server would read it as other words.

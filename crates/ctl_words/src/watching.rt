@@ -5,7 +5,7 @@ use crate::words::{Task, WatchWords};
 use clap::ArgMatches;
 use std::alloc::Global;
 
-const WATCH_OPTIONS: [&str; 5] = ["user", "to", "class", "into", "once"];
+const WATCH_OPTIONS: [&str; 6] = ["user", "to", "class", "into", "once", "delete"];
 
 /// The task of `watch`, of one folder.
 pub(crate) fn watch_task<'a>(
@@ -16,6 +16,13 @@ pub(crate) fn watch_task<'a>(
     only_options(alloc, matches, "watch", &WATCH_OPTIONS)?;
     let remote = number_of(alloc, matches, "to", 0, u64::MAX)?;
     let class = number_of(alloc, matches, "class", 1, 2)?;
+    let delete = matches.get_flag("delete");
+    if delete && class == Some(1) {
+        return Err(usage(String::from_str(
+            alloc,
+            "error: --delete needs class 2, in which the receiver says what it keeps\n",
+        )));
+    }
     match (remote, folders) {
         (Some(remote), [folder]) => Ok(Task::Watch(WatchWords {
             folder,
@@ -24,6 +31,7 @@ pub(crate) fn watch_task<'a>(
             class: class.unwrap_or(2),
             into: matches.get_str("into"),
             once: matches.get_flag("once"),
+            delete,
         })),
         _ => Err(usage(String::from_str(
             alloc,

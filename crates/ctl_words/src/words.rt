@@ -28,6 +28,8 @@ pub enum Task<'a> {
     /// Send one command, in the server's form.
     Command(String),
     Status(StatusWords),
+    /// Say in one line whether somebody has to look at the station.
+    Check,
     Follow(FollowWords<'a>),
     /// Show the files that wait in the outbox.
     Outbox(OutboxWords),
@@ -101,6 +103,10 @@ pub struct SendWords<'a> {
     pub into: Option<&'a str>,
     /// Whether to wait for the end of each file.
     pub wait: bool,
+    /// How often a file that didn't arrive is sent again, up to 1,000.
+    pub retries: u64,
+    /// Whether a folder stands for its files.
+    pub recursive: bool,
     /// The paths of the files: one or more.
     pub files: Vec<&'a str>,
 }
@@ -120,6 +126,8 @@ pub struct WatchWords<'a> {
     pub into: Option<&'a str>,
     /// Whether to end once no file is left to send.
     pub once: bool,
+    /// Whether a file that has arrived is deleted at last.
+    pub delete: bool,
 }
 
 /// Which transactions of logs are printed, and how.

@@ -9,5 +9,5 @@ mod setting;
 
 pub use config::Config;
 pub use config_reading::{ConfigFault, EntitySettings, Key, Remote, Section};
-pub use reading::read_config;
+pub use reading::{config_in, read_config};
 pub use setting::Setting;

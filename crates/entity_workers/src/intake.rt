@@ -1,11 +1,12 @@
 //! The intake: datagrams are decoded, and wait for the workers.
-ghost use Rattle.std.specs.Prelude.{◌<◌, IfErr, IsErr};
+ghost use Rattle.std.specs.Prelude.{◌≡◌, ◌⊎◌, ◌<◌, IfErr, IsErr};
 ghost use Rattle.pdu_reading.specs.Reading.{reading};
 ghost use Rattle.entity_workers.specs.Faults.{IsNotTaken};
 
 use crate::fault::IntakeFault;
+use crate::message::Message;
 use crossbeam_channel::{Receiver, SendError, Sender, bounded};
-use pdu_codec::{DecodeFault, Pdu, decode};
+use pdu_codec::DecodeFault;
 use std::alloc::{AllocError, Global};
 use std::sync::Wait;
 
@@ -15,14 +16,14 @@ pub struct Intake;
 /// The sending end of an intake, for datagrams.
 #[derive(Drop)]
 pub struct IntakeSend {
-    to: Sender<Pdu>,
+    to: Sender<Message>,
     alloc: Global,
 }
 
 /// The receiving end of an intake, for workers.
 #[derive(Drop)]
 pub struct IntakeEnd {
-    from: Receiver<Pdu>,
+    from: Receiver<Message>,
 }
 
 impl Intake {
@@ -42,12 +43,19 @@ impl IntakeSend {
         ensures why { IfErr result (IsNotTaken (reading octets.now)) }
         ensures unread { IsErr (reading octets.now) → IsErr result }
     {
-        let pdu = match decode(self.alloc, octets) {
-            Ok(pdu) => pdu,
-            Err(DecodeFault::NoMemory) => return Err(IntakeFault::NoMemory),
-            Err(fault) => return Err(IntakeFault::Decode(fault)),
-        };
-        match self.to.send(rt, pdu) {
+        match Message::new(self.alloc, octets) {
+            Ok(message) => self.queue(rt, octets, message),
+            Err(DecodeFault::NoMemory) => Err(IntakeFault::NoMemory),
+            Err(fault) => Err(IntakeFault::Decode(fault)),
+        }
+    }
+
+    // Queues the message of a datagram, and no other.
+    fn queue<R: Wait>(&self, rt: &R, _octets: &[u8], message: Message) -> Result<(), IntakeFault>
+        requires { message.octets ≡ _octets.now }
+        ensures { IfErr result (λ fault. (fault ≡ IntakeFault.NoMemory) ⊎ (fault ≡ IntakeFault.Closed)) }
+    {
+        match self.to.send(rt, message) {
             Ok(()) => Ok(()),
             Err(SendError::OutOfMemory(_)) => Err(IntakeFault::NoMemory),
             Err(SendError::Disconnected(_)) => Err(IntakeFault::Closed),
@@ -56,8 +64,8 @@ impl IntakeSend {
 }
 
 impl IntakeEnd {
-    /// Returns the next PDU, and waits for one. None once no sender is left and no PDU is waiting.
-    pub fn receive<R: Wait>(&self, rt: &R) -> Option<Pdu> {
+    /// Returns the next message, and waits for one. None once no sender is left and no message is waiting.
+    pub fn receive<R: Wait>(&self, rt: &R) -> Option<Message> {
         self.from.recv(rt).ok()
     }
 }

@@ -6,6 +6,7 @@ mod carrier;
 mod deposit;
 mod fault;
 mod intake;
+mod message;
 mod source;
 mod workers;
 
@@ -14,5 +15,6 @@ pub use deposit::{DepositRest, deposit_one, finish};
 pub use fault::{IntakeFault, WorkersFault};
 pub use file_stores::{Filestore, FolderStore, MemoryStore, StoreFault, StoredFile};
 pub use intake::{Intake, IntakeEnd, IntakeSend};
+pub use message::Message;
 pub use source::Source;
 pub use workers::{run_workers, run_workers_from};

@@ -14,9 +14,10 @@ pub trait Source<R, A, C: Carrier<A>> {
         ensures { (other : Result A EntityRefusal) → C.accepts carrier.old other → C.accepts carrier.new other };
 }
 
-/// Takes the PDUs of the intake, and leaves the carrier alone.
+/// Takes the PDUs of the intake's messages, and leaves the carrier alone.
 impl<R: Wait, A, C: Carrier<A>> Source<R, A, C> for IntakeEnd {
     fn next(&self, rt: &R, _carrier: &mut C) -> Option<Pdu> {
-        self.receive(rt)
+        let message = self.receive(rt)?;
+        Some(message.into_pdu())
     }
 }

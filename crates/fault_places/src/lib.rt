@@ -10,6 +10,7 @@ mod values;
 
 pub use keys::push_handlers;
 pub use lines::line_of;
-pub use place::{Place, place_of};
+pub use place::{Place, line_within, place_among, place_of};
 pub use scan::Sought;
 pub use spot::{Spot, spot_in};
+pub use values::push_value;

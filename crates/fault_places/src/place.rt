@@ -25,14 +25,24 @@ pub struct Place {
 /// The place of a fault that reading this text reported.
 pub fn place_of(alloc: Global, text: &str, fault: ConfigFault) -> Result<Place, AllocError> {
     match toml::table_from_str(alloc, text) {
-        Ok(top) => match spot_in(alloc, &top)? {
-            Some(spot) => place_in(alloc, text, &top, spot, fault),
-            None => Ok(nowhere(alloc, None)),
-        },
+        Ok(top) => place_among(alloc, text, &top, fault),
         Err(error) => match error.span() {
             Some(span) => Ok(nowhere(alloc, Some(line_at(text, span.start)))),
             None => Ok(nowhere(alloc, None)),
         },
+    }
+}
+
+/// The place of a fault that reading a table of a text reported.
+pub fn place_among(
+    alloc: Global,
+    text: &str,
+    top: &Table,
+    fault: ConfigFault,
+) -> Result<Place, AllocError> {
+    match spot_in(alloc, top)? {
+        Some(spot) => place_in(alloc, text, top, spot, fault),
+        None => Ok(nowhere(alloc, None)),
     }
 }
 
@@ -119,6 +129,18 @@ fn line_of_key(
         Spot::User(place) => ("user", (place as u64).saturating_add(1)),
         Spot::Remote(place) => ("remote", (place as u64).saturating_add(1)),
     };
+    line_within(alloc, text, name, table, key)
+}
+
+/// The line of a key in a table, or that of the table if the key is empty or isn't there. If there are several tables of
+/// that name, it is the one of this number, counted from 1.
+pub fn line_within(
+    alloc: Global,
+    text: &str,
+    name: &str,
+    table: u64,
+    key: &str,
+) -> Result<Option<u64>, AllocError> {
     let mut path = String::from_str(alloc, name)?;
     if !name.is_empty() && !key.is_empty() {
         path.push_str(".")?;

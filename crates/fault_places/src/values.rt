@@ -3,7 +3,7 @@ use std::alloc::AllocError;
 use toml::Value;
 
 /// Adds a value in a few words: a text in quotes, a number, or what else it is.
-pub(crate) fn push_value(text: &mut String, value: &Value) -> Result<(), AllocError> {
+pub fn push_value(text: &mut String, value: &Value) -> Result<(), AllocError> {
     if let Some(word) = value.as_str() {
         return push_quoted(text, word);
     }

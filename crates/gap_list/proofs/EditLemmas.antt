@@ -29,7 +29,7 @@ joined_two : (start end low high i : ℕ) → start ≤ high → low ≤ end →
     → (is_within low high i || is_within start end i) ≡ is_within (min start low) (max end high) i
 joined_two start end low high i a b c d = grind (arith, nat_tests)
 
-or_later : (a b c : Bool) → ((a || b) || c) ≡ (a || (b || c))
+pub or_later : (a b c : Bool) → ((a || b) || c) ≡ (a || (b || c))
 or_later true b c = refl
 or_later false b c = refl
 
@@ -59,7 +59,7 @@ spanned run (next ∷ runs) low start end i rising filled ended begun =
     ∙ ap (λ n. is_within (min start run.start) n i) most
 
 -- the runs after others begin above the last end of those
-beyond_last : (low : ℕ) (run : Run) (runs : List Run) → beyond low (run ∷ runs) ≡ last_end run.end runs + 1
+pub beyond_last : (low : ℕ) (run : Run) (runs : List Run) → beyond low (run ∷ runs) ≡ last_end run.end runs + 1
 beyond_last low run [] = refl
 beyond_last low run (next ∷ runs) = beyond_last (run.end + 1) next runs
 

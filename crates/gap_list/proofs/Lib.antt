@@ -5,3 +5,4 @@ pub mod RisingLemmas
 pub mod SearchLemmas
 pub mod EditLemmas
 pub mod WalkLemmas
+pub mod MergeLemmas

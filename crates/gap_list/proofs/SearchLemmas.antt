@@ -22,7 +22,7 @@ below_run start end i before = rw (lt-leb start i before) refl
 pub above_run : (start end i : ℕ) → end ≤ i → is_within start end i ≡ false
 above_run start end i after = and_right (nat_le start i) (nat_lt i end) (le-ltb i end after)
 
-either_false-left : (a b : Bool) → (a || b) ≡ false → a ≡ false
+pub either_false-left : (a b : Bool) → (a || b) ≡ false → a ≡ false
 either_false-left true b e = e
 either_false-left false b e = refl
 
@@ -75,7 +75,7 @@ start_or-after offset limit (run ∷ runs) below above =
     let first : offset < run.start = All-head (λ (run : Run). offset < run.start) run runs above in omega arith
 
 -- runs that begin at or below an offset that they don't have end there
-begun_without : (offset i : ℕ) (runs : List Run) → All (λ run. run.start ≤ offset) runs → in_runs runs offset ≡ false → offset ≤ i → in_runs runs i ≡ false
+pub begun_without : (offset i : ℕ) (runs : List Run) → All (λ run. run.start ≤ offset) runs → in_runs runs offset ≡ false → offset ≤ i → in_runs runs i ≡ false
 begun_without offset i [] begun missing from = refl
 begun_without offset i (run ∷ runs) begun missing from =
     let first : run.start ≤ offset = All-head (λ (run : Run). run.start ≤ offset) run runs begun in

@@ -1,5 +1,5 @@
 -- Meaning. What a gap list covers.
-use Rattle.std.specs.Prelude.{ℕ, ◌+◌, ◌≤◌, Bool, List, length, Option, None, Some}
+use Rattle.std.specs.Prelude.{ℕ, Bool, List}
 use Rattle.gap_list.specs.declared.run.Run.{Run}
 use Rattle.gap_list.specs.Runs.{in_runs}
 
@@ -11,8 +11,3 @@ pub record GapsValue : Type 0 where
 -- whether an offset is covered
 unfoldable pub covered : GapsValue → ℕ → Bool
 covered gaps offset = in_runs gaps.runs offset
-
--- there is room for `count` more runs than the set has: in the set, or in the spare one to which it may move
-abbrev pub HasRoomWith : GapsValue → Option GapsValue → ℕ → Type 0
-HasRoomWith gaps None count = count ≤ gaps.room
-HasRoomWith gaps (Some spare) count = length gaps.runs + count ≤ spare.room

@@ -27,6 +27,10 @@ IsFree set start end = (offset : ℕ) → start ≤ offset → offset < end → 
 abbrev pub in_runs : List Run → ℕ → Bool
 in_runs runs offset = list_any (λ run. is_within run.start run.end offset) runs
 
+-- a set and the offsets of ranges
+abbrev pub with_ranges : (ℕ → Bool) → List Run → ℕ → Bool
+with_ranges set ranges offset = set offset || in_runs ranges offset
+
 -- an offset added before the runs above it: it joins the first run where that begins right after it
 abbrev pub joined : ℕ → List Run → List Run
 joined offset [] = record { start = offset; end = offset + 1 } ∷ []

@@ -105,15 +105,3 @@ pub fn remove(runs: &mut Vec<Run>, start: u32, end: u32)
         insert_filled(runs, first, below);
     }
 }
-
-// Moves all runs into `spare`, which has room for them, and keeps that vector.
-pub fn move_to(runs: &mut Vec<Run>, mut spare: Vec<Run>)
-    requires { vec_len runs.old ≤ vec_capacity spare }
-    ensures items { runs.new.items ≡ runs.old.items }
-    ensures len { vec_len runs.new ≡ vec_len runs.old }
-    ensures room { vec_capacity spare ≤ vec_capacity runs.new }
-{
-    spare.clear();
-    let _moved = spare.append(runs);
-    *runs = spare;
-}

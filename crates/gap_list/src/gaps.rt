@@ -1,5 +1,5 @@
 use crate::run::{Run, Runs};
-use crate::{edit, search, walk};
+use crate::{edit, merge, search, walk};
 use std::alloc::{AllocError, Global};
 use std::marker::Model;
 
@@ -25,9 +25,9 @@ impl Model for Gaps {
 
 #[tactic(auto, unfolding(crate::specs::Covered::covered))]
 impl Gaps {
-    ghost use Rattle.std.specs.Prelude.{◌≡◌, ◌↔◌, ℕ, ◌+◌, ◌<◌, ◌≤◌, false, take, Ok, None, IfOk, IfSome, OnOk, OnErr, IsTrue};
-    ghost use Rattle.gap_list.specs.Covered.{covered, HasRoomWith};
-    ghost use Rattle.gap_list.specs.Runs.{SameSet, IsFree, with_range, without_range, new_runs, missing_runs, first_run, IsExtent};
+    ghost use Rattle.std.specs.Prelude.{◌≡◌, ◌↔◌, ℕ, ◌+◌, ◌<◌, ◌≤◌, false, take, IfOk, OnOk, OnErr, IsTrue};
+    ghost use Rattle.gap_list.specs.Covered.{covered};
+    ghost use Rattle.gap_list.specs.Runs.{SameSet, IsFree, with_range, with_ranges, without_range, new_runs, missing_runs, first_run, IsExtent};
 
     /// The empty set.
     pub fn new(alloc: Global) -> Gaps
@@ -55,36 +55,6 @@ impl Gaps {
         ensures kept { self.old.room ≤ self.new.room }
     {
         self.runs.reserve(count)
-    }
-
-    /// An empty set to move to, with room for the runs here and `count` more; None where there is room here already.
-    /// It has room for at least twice the runs here, so that growing sets rarely move. An overflow of that number
-    /// is an error too.
-    pub fn spare(&self, count: usize) -> Result<Option<Gaps>, AllocError>
-        ensures room { IfOk result (λ spare. HasRoomWith self.now spare count) }
-        ensures none { count ≤ self.now.room → result ≡ Ok None }
-        ensures empty { IfOk result (λ found. IfSome found (λ spare. (offset : ℕ) → covered spare offset ≡ false)) }
-    {
-        let len = self.runs.len();
-        if count <= self.runs.capacity() - len {
-            return Ok(None);
-        }
-        let Some(wanted) = count.checked_add(2 * len) else {
-            return Err(AllocError);
-        };
-        let spare = Gaps::with_room(*self.runs.allocator(), wanted)?;
-        Ok(Some(spare))
-    }
-
-    /// Moves the runs into the spare set, if one is given. What the spare set covered is dropped.
-    pub fn move_to(&mut self, spare: Option<Gaps>)
-        requires { HasRoomWith self.old spare 0 }
-        ensures same { SameSet (covered self.new) (covered self.old) }
-        ensures room { (count : ℕ) → HasRoomWith self.old spare count → count ≤ self.new.room }
-    {
-        if let Some(spare) = spare {
-            edit::move_to(&mut self.runs, spare.runs);
-        }
     }
 
     /// Covers the offsets from `start` to `end` - 1, without allocating.
@@ -186,6 +156,14 @@ impl Gaps {
         ensures { result ≡ first_run (without_range (covered self.now) 0 offset) limit }
     {
         search::first_run(self.runs.as_slice(), offset, limit)
+    }
+
+    /// The set without the offsets below `from`, and with the ranges. Ranges that begin in rising order cost one pass.
+    pub fn merged(&self, from: u32, ranges: &[Run]) -> Result<Gaps, AllocError>
+        ensures { IfOk result (λ gaps. SameSet (covered gaps) (with_ranges (without_range (covered self.now) 0 from) ranges.now)) }
+    {
+        let runs = merge::merged(*self.runs.allocator(), self.runs.as_slice(), from, ranges)?;
+        Ok(Gaps { runs })
     }
 
     /// A copy of the set.

@@ -3,6 +3,7 @@
 
 mod edit;
 mod gaps;
+mod merge;
 mod run;
 mod search;
 mod walk;

@@ -147,7 +147,7 @@ pub fn greatest_end(runs: &[Run]) -> u32
 }
 
 // The end of the last run; 0 where there are none.
-fn last_end(runs: &[Run]) -> u32
+pub fn last_end(runs: &[Run]) -> u32
     ensures { result ≡ last_end 0 runs.now }
 {
     match runs.last() {

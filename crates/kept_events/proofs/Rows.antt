@@ -3,19 +3,19 @@ use Rattle.std.proofs.Common.{◌≡◌, List, [], ◌∷◌, map, codes, refl}
 use Rattle.event_levels.specs.declared.level.Level.{Level}
 use Rattle.event_levels.specs.declared.level.Level.TheVariants.{Detail, Info, Warning}
 use Rattle.kept_events.specs.declared.ring.Form.TheVariants.{Labelled, Plain}
-use Rattle.kept_events.specs.declared.ring.KeptLine.{KeptLine}
+use Rattle.kept_events.specs.KeptLines.{LineValue}
 use Rattle.kept_events.specs.Rings.{KeptValue, kept_line, kept_with, shown, texts, trimmed}
 
 abbrev levels : List Level
 levels = Detail ∷ Info ∷ Warning ∷ []
 
-abbrev detail : KeptLine
+abbrev detail : LineValue
 detail = kept_line Detail (codes "d")
 
-abbrev info : KeptLine
+abbrev info : LineValue
 info = kept_line Info (codes "i")
 
-abbrev warning : KeptLine
+abbrev warning : LineValue
 warning = kept_line Warning (codes "w")
 
 abbrev four : KeptValue

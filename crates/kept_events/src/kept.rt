@@ -1,8 +1,9 @@
 //! The last events, for clients that follow later.
 ghost use Rattle.std.specs.Prelude.{◌≡◌, ◌++◌, [], IfOk, OnErr, OnOk};
-ghost use Rattle.kept_events.specs.Rings.{kept_line, kept_with, shown, texts};
+ghost use Rattle.kept_events.specs.Rings.{kept_line, kept_segment, kept_with, shown, texts};
 
-use crate::ring::{Form, KeptLine, Ring};
+use crate::line::{KeptLine, SegmentEvent};
+use crate::ring::{Form, Ring};
 use cfdp_types::Octets;
 use event_levels::Level;
 use std::alloc::{AllocError, Global};
@@ -11,13 +12,13 @@ use std::marker::Model;
 /// The last events, and the last ones of `info` and above, so that many details push nothing else out. Each text is in
 /// memory once. Contracts see both lists, oldest first.
 #[derive(Drop)]
-pub struct KeptEvents {
+pub struct KeptEvents<'a> {
     alloc: Global,
-    all: Ring,
-    notable: Ring,
+    all: Ring<'a>,
+    notable: Ring<'a>,
 }
 
-impl Model for KeptEvents {
+impl<'a> Model for KeptEvents<'a> {
     ghost use Rattle.kept_events.specs.Rings.{KeptValue};
 
     ghost Value = { KeptValue };
@@ -25,9 +26,9 @@ impl Model for KeptEvents {
     ghost view = { λ k. record { all = k.all; notable = k.notable } };
 }
 
-impl KeptEvents {
+impl<'a> KeptEvents<'a> {
     /// Without any event so far. Memory for the lists is reserved here, but not for the events' text.
-    pub fn new(alloc: Global) -> Result<KeptEvents, AllocError>
+    pub fn new(alloc: Global) -> Result<KeptEvents<'a>, AllocError>
         ensures all { IfOk result (λ kept. kept.all ≡ []) }
         ensures notable { IfOk result (λ kept. kept.notable ≡ []) }
     {
@@ -46,10 +47,17 @@ impl KeptEvents {
         let text = Octets::from_slice(self.alloc, line)?;
         if level.reaches(Level::Info) {
             let copy = text.copy()?;
-            self.notable.push(KeptLine { level, text: copy });
+            self.notable.push(KeptLine::written(level, copy));
         }
-        self.all.push(KeptLine { level, text });
+        self.all.push(KeptLine::written(level, text));
         Ok(())
+    }
+
+    /// Keeps a segment's event, which is a detail, without writing its line.
+    pub fn push_segment(&mut self, event: SegmentEvent<'a>)
+        ensures { self.new ≡ kept_with (kept_segment Level.Detail event.entry) self.old }
+    {
+        self.all.push(KeptLine::segment(Level::Detail, event));
     }
 
     /// Adds the last events of a level or above, at most so many, each after a word. If memory runs out, a part of them

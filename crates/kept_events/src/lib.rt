@@ -2,7 +2,9 @@
 #![tactic(auto)]
 
 mod kept;
+mod line;
 mod ring;
 
 pub use kept::KeptEvents;
-pub use ring::{Form, KEPT_LINES, KEPT_OCTETS, KeptLine, Ring};
+pub use line::{KeptLine, SegmentEvent, Text};
+pub use ring::{Form, KEPT_LINES, KEPT_OCTETS, Ring};

@@ -4,7 +4,7 @@ ghost use Rattle.std.specs.List.{filter};
 ghost use Rattle.std.specs.VecDeque.{deque_capacity};
 ghost use Rattle.kept_events.specs.Rings.{has_no_room, last_of, matters, octets_of, pushed, text_after, texts, trimmed};
 
-use cfdp_types::Octets;
+use crate::line::KeptLine;
 use event_levels::{Level, push_labelled};
 use std::alloc::{AllocError, Global};
 use std::collections::VecDeque;
@@ -13,15 +13,8 @@ use std::marker::Model;
 /// How many lines are kept at most.
 pub const KEPT_LINES: usize = 1_024;
 
-/// How many octets the kept lines have at most, the last one not counted.
+/// How many octets of the kept lines are written at most, the last line not counted.
 pub const KEPT_OCTETS: usize = 2 * 1_024 * 1_024;
-
-/// A line, and how much it matters.
-#[derive(Debug, Drop)]
-pub struct KeptLine {
-    pub level: Level,
-    pub text: Octets,
-}
 
 /// How lines are shown.
 #[derive(Clone, Copy, Debug, PartialEq, Eq)]
@@ -34,27 +27,27 @@ pub enum Form {
 
 /// The last lines, oldest first. Contracts see the list of them.
 #[derive(Drop)]
-pub struct Ring {
-    lines: VecDeque<KeptLine>,
+pub struct Ring<'a> {
+    lines: VecDeque<KeptLine<'a>>,
     octets: usize,
 }
 
-impl Model for Ring {
+impl<'a> Model for Ring<'a> {
     ghost use Rattle.std.specs.Prelude.{◌≡◌, ◌≤◌, List};
     ghost use Rattle.std.specs.VecDeque.{deque_capacity};
     ghost use Rattle.kept_events.specs.Rings.{octets_of};
-    ghost use Rattle.kept_events.specs.declared.ring.KeptLine.{KeptLine};
+    ghost use Rattle.kept_events.specs.KeptLines.{LineValue};
 
-    ghost Value = { List KeptLine };
+    ghost Value = { List LineValue };
 
     ghost view = { λ r. r.lines.items };
 
     ghost invariant = { λ r. (r.octets ≡ octets_of r.lines.items) × (1024 ≤ deque_capacity r.lines) };
 }
 
-impl Ring {
+impl<'a> Ring<'a> {
     /// Without any line so far. Memory for the list is reserved here, but not for the lines' text.
-    pub fn new(alloc: Global) -> Result<Ring, AllocError>
+    pub fn new(alloc: Global) -> Result<Ring<'a>, AllocError>
         ensures { IfOk result (λ ring. ring ≡ []) }
     {
         Ok(Ring {
@@ -64,10 +57,10 @@ impl Ring {
     }
 
     /// Keeps one more line, and drops the oldest ones that have no room beside it.
-    pub fn push(&mut self, line: KeptLine)
-        ensures { self.new ≡ pushed line self.old }
+    pub fn push(&mut self, line: KeptLine<'a>)
+        ensures { self.new ≡ pushed line.entry self.old }
     {
-        let more = line.text.as_slice().len();
+        let more = line.weight();
         let octets = make_room(&mut self.lines, self.octets, more);
         self.octets = octets.saturating_add(more);
         self.lines.push_back_reserved(line);
@@ -86,7 +79,7 @@ impl Ring {
     {
         self.lines
             .iter()
-            .filter(|line| line.level.reaches(least))
+            .filter(|line| line.level().reaches(least))
             .count()
     }
 
@@ -109,7 +102,7 @@ impl Ring {
 
 // Adds the lines of a level or above, without so many of the first ones, each after a word.
 fn push_behind(
-    lines: &VecDeque<KeptLine>,
+    lines: &VecDeque<KeptLine<'_>>,
     text: &mut Vec<u8>,
     word: &[u8],
     least: Level,
@@ -123,7 +116,7 @@ fn push_behind(
         let Some(line) = lines.get(place) else {
             break;
         };
-        if !line.level.reaches(least) {
+        if !line.level().reaches(least) {
             continue;
         }
         if passed < skipped {
@@ -136,18 +129,24 @@ fn push_behind(
 }
 
 // Adds a line after a word.
-fn push_line(text: &mut Vec<u8>, word: &[u8], line: &KeptLine, form: Form) -> Result<(), AllocError>
+fn push_line(
+    text: &mut Vec<u8>,
+    word: &[u8],
+    line: &KeptLine<'_>,
+    form: Form,
+) -> Result<(), AllocError>
     ensures { OnOk result (text.new.items ≡ text.old.items ++ text_after form word.now line.now) }
 {
+    let octets = line.octets(*text.allocator())?;
     text.extend_from_slice(word)?;
     match form {
-        Form::Plain => text.extend_from_slice(line.text.as_slice()),
-        Form::Labelled => push_labelled(text, line.text.as_slice(), line.level),
+        Form::Plain => text.extend_from_slice(octets.as_slice()),
+        Form::Labelled => push_labelled(text, octets.as_slice(), line.level()),
     }
 }
 
 // Drops the oldest lines until one of so many octets has room. Returns how many octets the remaining lines have.
-fn make_room(lines: &mut VecDeque<KeptLine>, octets: usize, more: usize) -> usize
+fn make_room(lines: &mut VecDeque<KeptLine<'_>>, octets: usize, more: usize) -> usize
     requires { octets ≡ octets_of lines.old.items }
     ensures lines { lines.new.items ≡ trimmed more lines.old.items }
     ensures octets { result ≡ octets_of lines.new.items }
@@ -158,7 +157,7 @@ fn make_room(lines: &mut VecDeque<KeptLine>, octets: usize, more: usize) -> usiz
         let Some(oldest) = lines.pop_front() else {
             break;
         };
-        octets -= oldest.text.as_slice().len();
+        octets -= oldest.weight();
     }
     octets
 }

@@ -4,9 +4,11 @@ use Rattle.std.proofs.lemmas.Bool.{cases_Bool}
 use Rattle.std.specs.List.{filter, position_or_len}
 use Rattle.program_parking.specs.declared.parked.Parked.{Parked}
 use Rattle.program_parking.specs.declared.parked.Lent.{Lent}
-use Rattle.program_parking.specs.Lanes.{LaneValue, behind, costs, front_of, halved, inserted, is_behind, is_of_other, lendable, within}
+use Rattle.program_parking.specs.declared.outcome.Outcome.{Outcome}
+use Rattle.program_parking.specs.declared.outcome.Outcome.TheVariants.{Taken, Refused, Waits}
+use Rattle.program_parking.specs.Lanes.{LaneValue, behind, costs, front_of, halved, inserted, is_behind, is_none_of, is_of_other, lendable, within}
 use Rattle.program_parking.proofs.PlaceFacts.{fitting_is_front}
-use Rattle.parking_laws.specs.ParkingLaws.{AreMoves, Key, MayMove, Move, Run, forgets, given_up, gives_way, is_key, key_of, key_of_lent, lends, line_of, of_number, parks, run_lent, run_of, run_settled, settles, step, times, up_to, without, without_room}
+use Rattle.parking_laws.specs.ParkingLaws.{AreMoves, Key, MayMove, Move, Run, forgets, given_up, gives_way, is_key, itself, key_of, key_of_lent, lends, line_of, of_number, parks, run_lent, run_of, run_settled, settles, step, times, up_to, without, without_room}
 use Rattle.parking_laws.proofs.LineFacts.{behind_before, keys, within_is}
 use Rattle.parking_laws.proofs.RunFacts.{RunIsOrdered, runs_ordered}
 use Rattle.parking_laws.proofs.TimesFacts.{key_parts, key_same, one_if, times_append, times_before, times_behind, times_filters, times_inserted, times_itself, times_take_drop, times_taken}
@@ -134,7 +136,7 @@ taken_placed lent run key is ordered counted =
         omega arith
     by (inr other) now total = let all = rw other at now in omega arith
 
-taken_counted : (lent : Lent) (run : Run) → run.lent ≡ Some lent → RunIsOrdered run → IsCounted run → IsCounted (run_settled true (Some lent) run)
+taken_counted : (lent : Lent) (run : Run) → run.lent ≡ Some lent → RunIsOrdered run → IsCounted run → IsCounted (run_settled Taken (Some lent) run)
 taken_counted lent run is ordered counted = record {
   placed = λ key. taken_placed lent run key is ordered counted;
   once = counted.once;
@@ -142,10 +144,27 @@ taken_counted lent run is ordered counted = record {
   lent = tt;
 }
 
-settled_counted : (taken : Bool) (lent : Option Lent) (run : Run) → run.lent ≡ lent → RunIsOrdered run → IsCounted run → IsCounted (run_settled taken lent run)
-settled_counted taken None run is ordered counted = counted
-settled_counted false (Some lent) run is ordered counted = record { placed = counted.placed; once = counted.once; early = counted.early; lent = tt }
-settled_counted true (Some lent) run is ordered counted = taken_counted lent run is ordered counted
+refused_placed : (lent : Lent) (run : Run) (key : Key) → IsCounted run
+    → times key run.parked ≡ times key run.out + times key (keys (filter (is_none_of lent.number lent.arrival) run.lane.waiting)) + times key (itself lent run.lane.waiting ++ run.dropped)
+refused_placed lent run key counted =
+    let was : times key run.parked ≡ times key run.out + times key (keys run.lane.waiting) + times key run.dropped = counted.placed key in
+    let parts : times key (keys run.lane.waiting) ≡ times key (keys (filter (is_none_of lent.number lent.arrival) run.lane.waiting)) + times key (itself lent run.lane.waiting) = times_filters key (is_none_of lent.number lent.arrival) run.lane.waiting in
+    let gone : times key (itself lent run.lane.waiting ++ run.dropped) ≡ times key (itself lent run.lane.waiting) + times key run.dropped = times_append key (itself lent run.lane.waiting) run.dropped in
+    omega arith
+
+refused_counted : (lent : Lent) (run : Run) → IsCounted run → IsCounted (run_settled Refused (Some lent) run)
+refused_counted lent run counted = record {
+  placed = λ key. refused_placed lent run key counted;
+  once = counted.once;
+  early = counted.early;
+  lent = tt;
+}
+
+settled_counted : (outcome : Outcome) (lent : Option Lent) (run : Run) → run.lent ≡ lent → RunIsOrdered run → IsCounted run → IsCounted (run_settled outcome lent run)
+settled_counted outcome None run is ordered counted = counted
+settled_counted Refused (Some lent) run is ordered counted = refused_counted lent run counted
+settled_counted Waits (Some lent) run is ordered counted = record { placed = counted.placed; once = counted.once; early = counted.early; lent = tt }
+settled_counted Taken (Some lent) run is ordered counted = taken_counted lent run is ordered counted
 
 -- ---- a transaction is forgotten
 
@@ -192,7 +211,7 @@ gives_way_counted run counted = record {
 step_counted : (it : Move) (run : Run) → MayMove it run → RunIsOrdered run → IsCounted run → IsCounted (step it run)
 step_counted (parks limit one) run (last, least) ordered counted = parks_counted limit one run last counted
 step_counted lends run may ordered counted = lends_counted (lendable run.lane) run refl counted
-step_counted (settles taken) run may ordered counted = settled_counted taken run.lent run refl ordered counted
+step_counted (settles outcome) run may ordered counted = settled_counted outcome run.lent run refl ordered counted
 step_counted (forgets number) run may ordered counted = forgets_counted number run counted
 step_counted gives_way run may ordered counted = gives_way_counted run counted
 

@@ -3,12 +3,14 @@ use Rattle.std.proofs.Common.{◌≡◌, ℕ, ◌+◌, ◌/◌, ◌<◌, ◌≤�
 use Rattle.std.specs.List.{filter, position_or_len}
 use Rattle.program_parking.specs.declared.parked.Parked.{Parked}
 use Rattle.program_parking.specs.declared.parked.Lent.{Lent}
-use Rattle.program_parking.specs.Lanes.{LaneValue, behind, costs, halved, inserted, is_behind, is_of_other, lendable, within}
+use Rattle.program_parking.specs.declared.outcome.Outcome.{Outcome}
+use Rattle.program_parking.specs.declared.outcome.Outcome.TheVariants.{Taken, Refused, Waits}
+use Rattle.program_parking.specs.Lanes.{LaneValue, behind, costs, halved, inserted, is_behind, is_none_of, is_of_other, lendable, within}
 use Rattle.program_parking.proofs.PlaceFacts.{fitting_is_front}
 use Rattle.parking_laws.specs.ParkingLaws.{AreMoves, IsRising, Key, MayMove, Move, Run, forgets, gives_way, key_of, key_of_lent, lends, line_of, parks, run_lent, run_of, run_settled, settles, step}
 use Rattle.parking_laws.proofs.LineFacts.{AreBefore, AreEarly, AreLow, apart_drop, apart_filter, apart_inserted, apart_take, are_before_append, behind_before, early_drop, early_filter, early_inserted, early_more, early_take, keys, low_append, low_more, rising_append, rising_drop, rising_filter, rising_inserted, rising_take, within_is}
 
--- of the datagram that is lent: it comes after all that were handed in for good
+-- of the datagram that is lent: it comes after all that were taken
 abbrev pub IsNext : Option Lent → List Key → ℕ → Type 0
 IsNext None out arrivals = Unit {0}
 IsNext (Some lent) out arrivals = AreBefore out (key_of_lent lent ∷ []) × (lent.arrival < arrivals)
@@ -100,6 +102,17 @@ kept_ordered lane lent out arrivals ordered = record {
   next = tt;
 }
 
+refused_ordered : (lane : LaneValue) (lent : Lent) (out : List Key) (arrivals : ℕ) → IsOrdered lane (Some lent) out arrivals
+    → IsOrdered (record lane { waiting = filter (is_none_of lent.number lent.arrival) lane.waiting; is_lent = false }) None out arrivals
+refused_ordered lane lent out arrivals ordered = record {
+  out_rises = ordered.out_rises;
+  line_rises = rising_filter (is_none_of lent.number lent.arrival) lane.waiting ordered.line_rises;
+  apart = apart_filter out (is_none_of lent.number lent.arrival) lane.waiting ordered.apart;
+  low = ordered.low;
+  early = early_filter arrivals (is_none_of lent.number lent.arrival) lane.waiting ordered.early;
+  next = tt;
+}
+
 -- ---- a transaction is forgotten
 
 forgotten_ordered : (number : ℕ) (lane : LaneValue) (lent : Option Lent) (out : List Key) (arrivals : ℕ) → IsOrdered lane lent out arrivals
@@ -142,15 +155,16 @@ run_lent_ordered : (lent : Option Lent) (run : Run) → lendable run.lane ≡ le
 run_lent_ordered None run is ordered = ordered
 run_lent_ordered (Some lent) run is ordered = lent_ordered run.lane run.lent lent run.out run.arrivals is ordered
 
-settled_ordered : (taken : Bool) (lent : Option Lent) (run : Run) → run.lent ≡ lent → RunIsOrdered run → RunIsOrdered (run_settled taken lent run)
-settled_ordered taken None run is ordered = ordered
-settled_ordered false (Some lent) run is ordered = kept_ordered run.lane lent run.out run.arrivals (rw is at ordered)
-settled_ordered true (Some lent) run is ordered = taken_ordered run.lane lent run.out run.arrivals (rw is at ordered)
+settled_ordered : (outcome : Outcome) (lent : Option Lent) (run : Run) → run.lent ≡ lent → RunIsOrdered run → RunIsOrdered (run_settled outcome lent run)
+settled_ordered outcome None run is ordered = ordered
+settled_ordered Refused (Some lent) run is ordered = refused_ordered run.lane lent run.out run.arrivals (rw is at ordered)
+settled_ordered Waits (Some lent) run is ordered = kept_ordered run.lane lent run.out run.arrivals (rw is at ordered)
+settled_ordered Taken (Some lent) run is ordered = taken_ordered run.lane lent run.out run.arrivals (rw is at ordered)
 
 step_ordered : (it : Move) (run : Run) → MayMove it run → RunIsOrdered run → RunIsOrdered (step it run)
 step_ordered (parks limit one) run (last, least) ordered = parked_ordered limit one run.lane run.lent run.out run.arrivals last least ordered
 step_ordered lends run may ordered = run_lent_ordered (lendable run.lane) run refl ordered
-step_ordered (settles taken) run may ordered = settled_ordered taken run.lent run refl ordered
+step_ordered (settles outcome) run may ordered = settled_ordered outcome run.lent run refl ordered
 step_ordered (forgets number) run may ordered = forgotten_ordered number run.lane run.lent run.out run.arrivals ordered
 step_ordered gives_way run may ordered = halved_ordered run.lane run.lent run.out run.arrivals ordered
 

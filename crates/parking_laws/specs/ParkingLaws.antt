@@ -3,7 +3,9 @@ use Rattle.std.specs.Prelude.{◌≡◌, ℕ, ◌+◌, ◌<◌, ◌≤◌, ◌==
 use Rattle.std.specs.List.{filter, position_or_len}
 use Rattle.program_parking.specs.declared.parked.Parked.{Parked}
 use Rattle.program_parking.specs.declared.parked.Lent.{Lent}
-use Rattle.program_parking.specs.Lanes.{LaneValue, halved, inserted, is_behind, is_of_other, lendable, parked_in, settled, within, without_number}
+use Rattle.program_parking.specs.declared.outcome.Outcome.{Outcome}
+use Rattle.program_parking.specs.declared.outcome.Outcome.TheVariants.{Taken, Refused, Waits}
+use Rattle.program_parking.specs.Lanes.{LaneValue, halved, inserted, is_behind, is_none_of, is_of_other, lendable, parked_in, settled, within, without_number}
 
 -- a datagram by its transaction's number and by its place in the order of arrival, which counts those of all lanes
 pub record Key : Type 0 where
@@ -32,15 +34,15 @@ pub data Move : Type 0 where
   parks : (limit : ℕ) (one : Parked) → Move
   -- the first one is lent to be handed in
   lends : Move
-  -- it was handed in for good, or stays
-  settles : (taken : Bool) → Move
+  -- it was taken, or refused for good, or stays
+  settles : (outcome : Outcome) → Move
   -- nothing waits any more of a transaction
   forgets : (number : ℕ) → Move
   -- memory ran out: the last ones go, until the others take up half as much at most
   gives_way : Move
 
 -- a lane, and what is to be known of its run: the datagram that is lent, all that were parked, newest first, those that
--- were handed in for good, oldest first, those that are gone otherwise, and a place after those of all that were parked
+-- were taken, oldest first, those that are gone otherwise, and a place after those of all that were parked
 pub record Run : Type 0 where
   pub lane : LaneValue
   pub lent : Option Lent
@@ -75,6 +77,10 @@ given_up lane = keys_from (length (halved lane).waiting) lane.waiting
 abbrev pub up_to : Lent → List Parked → List Key
 up_to lent waiting = map key_of (take (position_or_len (is_behind lent.number lent.arrival) waiting) waiting)
 
+-- the one that was handed in, if it waits
+abbrev pub itself : Lent → List Parked → List Key
+itself lent waiting = map key_of (filter (λ one. not (is_none_of lent.number lent.arrival one)) waiting)
+
 -- those that wait of a transaction
 abbrev pub of_number : ℕ → List Parked → List Key
 of_number number waiting = map key_of (filter (λ one. not (is_of_other number one)) waiting)
@@ -88,13 +94,18 @@ abbrev pub run_lent : Option Lent → Run → Run
 run_lent None run = run
 run_lent (Some lent) run = record run { lane = record run.lane { is_lent = true }; lent = Some lent }
 
--- the run after the datagram that is lent is settled: if it was taken, it is handed in for good, whatever became of it
--- meanwhile, and those that wait before it are gone otherwise
-abbrev pub run_settled : Bool → Option Lent → Run → Run
-run_settled taken None run = run
-run_settled false (Some lent) run = record run { lane = settled false lent.number lent.arrival run.lane; lent = None }
-run_settled true (Some lent) run = record run {
-  lane = settled true lent.number lent.arrival run.lane;
+-- the run after the datagram that is lent is settled: if it was taken, it is out, whatever became of it meanwhile, and
+-- those that wait before it are gone otherwise; if it was refused for good, it alone is gone otherwise
+abbrev pub run_settled : Outcome → Option Lent → Run → Run
+run_settled outcome None run = run
+run_settled Waits (Some lent) run = record run { lane = settled Waits lent.number lent.arrival run.lane; lent = None }
+run_settled Refused (Some lent) run = record run {
+  lane = settled Refused lent.number lent.arrival run.lane;
+  lent = None;
+  dropped = itself lent run.lane.waiting ++ run.dropped;
+}
+run_settled Taken (Some lent) run = record run {
+  lane = settled Taken lent.number lent.arrival run.lane;
   lent = None;
   out = run.out ++ key_of_lent lent ∷ [];
   dropped = without (key_of_lent lent) (up_to lent run.lane.waiting ++ run.dropped);
@@ -108,7 +119,7 @@ step (parks limit one) run = record run {
   arrivals = one.arrival + 1;
 }
 step lends run = run_lent (lendable run.lane) run
-step (settles taken) run = run_settled taken run.lent run
+step (settles outcome) run = run_settled outcome run.lent run
 step (forgets number) run = record run {
   lane = without_number number run.lane;
   dropped = of_number number run.lane.waiting ++ run.dropped;
@@ -122,7 +133,7 @@ step gives_way run = record run {
 abbrev pub MayMove : Move → Run → Type 0
 MayMove (parks limit one) run = (run.arrivals ≤ one.arrival) × (run.lane.floor ≤ one.number)
 MayMove lends run = Unit {0}
-MayMove (settles taken) run = Unit {0}
+MayMove (settles outcome) run = Unit {0}
 MayMove (forgets number) run = Unit {0}
 MayMove gives_way run = Unit {0}
 
@@ -151,17 +162,17 @@ abbrev pub IsRising : List Key → Type 0
 IsRising [] = Unit {0}
 IsRising (one ∷ later) = IsBefore one later × IsRising later
 
--- what was handed in for good and what waits, in this order
+-- what was taken and what waits, in this order
 abbrev pub line_of : Run → List Key
 line_of run = run.out ++ map key_of run.lane.waiting
 
--- by number and, within a number, by arrival; so none is handed in for good twice, nor waits then
+-- by number and, within a number, by arrival; so none is taken twice, nor waits then
 abbrev pub ComesOutInOrder : Type 0
 ComesOutInOrder = (moves : List Move) → AreMoves moves → IsRising (line_of (run_of moves))
 
 -- ---- nothing is lost
 
--- each datagram that was parked is once among those that were handed in for good, that wait, or that are gone otherwise
+-- each datagram that was parked is once among those that were taken, that wait, or that are gone otherwise
 abbrev pub AccountsForEach : Type 0
 AccountsForEach = (moves : List Move) (key : Key) → AreMoves moves → 0 < times key (run_of moves).parked
     → times key (line_of (run_of moves) ++ (run_of moves).dropped) ≡ 1

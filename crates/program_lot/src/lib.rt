@@ -6,9 +6,11 @@ mod handed;
 mod lot;
 mod refusals;
 mod report;
+mod settled;
 
 pub use address::{LotAddress, address_of};
 pub use handed::{Handed, ParkEnd};
 pub use lot::Lot;
-pub use refusals::{lacks_memory, may_wait};
+pub use refusals::lacks_memory;
 pub use report::ParkedLane;
+pub use settled::Settled;

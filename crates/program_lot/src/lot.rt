@@ -2,9 +2,10 @@
 use crate::address::LotAddress;
 use crate::handed::{Handed, ParkEnd};
 use crate::report::ParkedLane;
+use crate::settled::Settled;
 use entity_config::Config;
 use entity_routing::{Place, lanes_of};
-use program_parking::{LaneParking, Parking};
+use program_parking::{LaneParking, Outcome, Parking};
 use std::alloc::{AllocError, Global};
 use std::sync::atomic::{AtomicBool, Ordering};
 use std::sync::{Mutex, Wait};
@@ -12,10 +13,12 @@ use std::sync::{Mutex, Wait};
 /// After how many milliseconds a datagram that was refused again is tried again, if nothing was heard of its lane.
 const RETRY_MS: u64 = 5;
 
-// When a lane's first datagram is tried next, and how many of the lane's datagrams were dropped.
+// When a lane's first datagram is tried next, whether it waits for room in its user's queue, and how many of the lane's
+// datagrams were dropped.
 #[derive(Clone, Copy)]
 struct Turn {
     due: u64,
+    wants_room: bool,
     dropped: u64,
 }
 
@@ -52,7 +55,15 @@ impl Lot {
             first_of.push(count)?;
             count = count.saturating_add(lanes_of(config, user));
         }
-        let turns = Vec::from_elem(alloc, Turn { due: 0, dropped: 0 }, count)?;
+        let turns = Vec::from_elem(
+            alloc,
+            Turn {
+                due: 0,
+                wants_room: false,
+                dropped: 0,
+            },
+            count,
+        )?;
         Ok(Lot {
             lanes: Mutex::new(Lanes {
                 parking: Parking::new(alloc, count, room)?,
@@ -131,10 +142,10 @@ impl Lot {
         handed
     }
 
-    /// Settles a datagram that was handed in: it was taken for good, or is tried again from `now` + 5 milliseconds on.
-    pub fn settle<R: Wait>(&self, rt: &R, handed: Handed, is_taken: bool, now: u64) {
+    /// Settles a datagram that was handed in. One that waits is tried again from `now` + 5 milliseconds on.
+    pub fn settle<R: Wait>(&self, rt: &R, handed: Handed, settled: Settled, now: u64) {
         let mut lanes = self.lanes.lock(rt);
-        settle_in(&mut lanes, &handed, is_taken, now);
+        settle_in(&mut lanes, &handed, settled, now);
         self.note(&lanes);
     }
 
@@ -160,11 +171,13 @@ impl Lot {
         self.note(&lanes);
     }
 
-    /// There is room in queues again: what waits for any lane may be handed in.
-    pub fn poke_all<R: Wait>(&self, rt: &R) {
+    /// There is room in queues again: what waits for that may be handed in.
+    pub fn poke_wanting_room<R: Wait>(&self, rt: &R) {
         let mut lanes = self.lanes.lock(rt);
         for turn in lanes.turns.iter_mut() {
-            turn.due = 0;
+            if turn.wants_room {
+                turn.due = 0;
+            }
         }
         self.note(&lanes);
     }
@@ -336,21 +349,23 @@ fn lend_from(lanes: &mut Lanes, now: u64) -> Option<Handed> {
     None
 }
 
-// Settles a datagram that was handed in. Counts those before it as dropped, because they came too late.
-fn settle_in(lanes: &mut Lanes, handed: &Handed, is_taken: bool, now: u64) {
+// Settles a datagram that was handed in. Counts those before one that was taken as dropped, because they came too late.
+fn settle_in(lanes: &mut Lanes, handed: &Handed, settled: Settled, now: u64) {
+    let outcome = settled.outcome();
     let mut before = count_in(lanes, handed.index);
-    if is_taken && waits_in(lanes, handed) {
+    if outcome != Outcome::Waits && waits_in(lanes, handed) {
         before = before.saturating_sub(1);
     }
     lanes
         .parking
-        .settle(handed.index, handed.number, handed.arrival, is_taken);
+        .settle(handed.index, handed.number, handed.arrival, outcome);
     let _late = note_dropped(lanes, handed.index, before);
     if let Some(turn) = lanes.turns.get_mut(handed.index) {
-        turn.due = if is_taken {
-            0
-        } else {
+        turn.wants_room = settled == Settled::WantsRoom;
+        turn.due = if outcome == Outcome::Waits {
             now.saturating_add(RETRY_MS)
+        } else {
+            0
         };
     }
 }

@@ -10,7 +10,7 @@ use disk::{Disk, SystemDisk};
 use entity_config::{Config, Setting};
 use number_file::NumberFile;
 use program_control::ControlSocket;
-use program_start::ProgramFault;
+use program_start::{ProgramFault, may_be_held};
 use std::alloc::Global;
 use std::net::Net;
 use std::rt::Files;
@@ -44,8 +44,8 @@ pub struct HeldNumbers<R: Files + AllocGlobal + Drop> {
 
 impl<R: Files + AllocGlobal + Drop> HeldNumbers<R> {
     /// Opens the file at a path. Numbers begin at the configuration's first round or the file's, whichever is higher,
-    /// which becomes the configuration's first. Fails if the file has no number, can't be read or written, or is held
-    /// by another program.
+    /// which becomes the configuration's first. Fails if the file has no number, can't be read or written, is held by
+    /// another program, or is a link, has a second name or isn't a plain file.
     pub fn open(
         rt: &R,
         alloc: Global,
@@ -63,6 +63,9 @@ impl<R: Files + AllocGlobal + Drop> HeldNumbers<R> {
         let (folder, name) = parts_of(path);
         let folder = String::from_str(alloc, folder)?;
         let name = String::from_str(alloc, name)?;
+        if !may_be_held(rt, path) {
+            return Err(ProgramFault::Numbers);
+        }
         let Ok(hold) = ControlSocket::open(rt, alloc, hold_path.as_str()) else {
             return Err(ProgramFault::Numbers);
         };

@@ -1,6 +1,8 @@
 //! Why a file provides no numbers, in words.
 use program_control::{ControlFault, ControlSocket};
-use program_start::{folder_of, push_file_reason, push_folder_reason, push_path_reason};
+use program_start::{
+    folder_of, push_file_reason, push_folder_reason, push_link_reason, push_path_reason,
+};
 use std::alloc::{AllocError, Global};
 use std::fs;
 use std::fs::File;
@@ -19,6 +21,11 @@ pub fn push_numbers_reason<R: Files + Net>(
     text: &mut String,
     path: &str,
 ) -> Result<(), AllocError> {
+    let before = text.len();
+    push_link_reason(rt, text, path)?;
+    if text.len() > before {
+        return Ok(());
+    }
     let lock = format!(in alloc; "{path}.lock")?;
     match ControlSocket::open(rt, alloc, lock.as_str()) {
         Ok(held) => {

@@ -1,6 +1,7 @@
 -- Worked lines of datagrams.
 use Rattle.std.proofs.Common.{◌≡◌, ℕ, ◌-◌, true, false, List, [], ◌∷◌, Some, None, refl}
 use Rattle.std.specs.List.{list_any}
+use Rattle.program_parking.specs.declared.outcome.Outcome.TheVariants.{Taken, Refused, Waits}
 use Rattle.program_parking.specs.declared.parked.Parked.{Parked}
 use Rattle.program_parking.specs.Lanes.{LaneValue, cost, halved, inserted, is_crowded, is_one, lendable, lending, oldest, parked_in, settled, transactions, without_number}
 use Rattle.program_parking.specs.Parkings.{ParkingValue, limit, parked}
@@ -55,15 +56,18 @@ of_no_other = refl
 half_goes : (halved lane).waiting ≡ datagram 8 0 ∷ []
 half_goes = refl
 
--- it stays, or is gone with what stands before it
-stays : settled false 8 0 (record lane { is_lent = true }) ≡ lane
+-- it stays, or is gone with what stands before it, or alone
+stays : settled Waits 8 0 (record lane { is_lent = true }) ≡ lane
 stays = refl
 
-taken : settled true 8 0 lane ≡ record { waiting = datagram 8 2 ∷ datagram 16 1 ∷ []; is_lent = false; floor = 8 }
+taken : settled Taken 8 0 lane ≡ record { waiting = datagram 8 2 ∷ datagram 16 1 ∷ []; is_lent = false; floor = 8 }
 taken = refl
 
-lower_ones_go : settled true 16 1 lane ≡ record { waiting = []; is_lent = false; floor = 16 }
+lower_ones_go : settled Taken 16 1 lane ≡ record { waiting = []; is_lent = false; floor = 16 }
 lower_ones_go = refl
+
+refused_alone : settled Refused 16 1 (record lane { is_lent = true }) ≡ record { waiting = datagram 8 0 ∷ datagram 8 2 ∷ []; is_lent = false; floor = 8 }
+refused_alone = refl
 
 forgotten : (without_number 8 lane).waiting ≡ datagram 16 1 ∷ []
 forgotten = refl

@@ -79,18 +79,18 @@ fitting_room limit (one ∷ xs) = by (nat_le (cost one) limit) refl (fitting_roo
 
 -- ---- a line without one transaction
 
-pub costs_filter : (number : ℕ) (xs : List Parked) → costs (filter (is_of_other number) xs) ≤ costs xs
-costs_filter number [] = omega arith
-costs_filter number (one ∷ xs) = by (is_of_other number one) refl (costs_filter number xs) (costs-cons one xs)
+pub costs_filter : (p : Parked → Bool) (xs : List Parked) → costs (filter p xs) ≤ costs xs
+costs_filter p [] = omega arith
+costs_filter p (one ∷ xs) = by (p one) refl (costs_filter p xs) (costs-cons one xs)
   where
-    by : (b : Bool) → is_of_other number one ≡ b → costs (filter (is_of_other number) xs) ≤ costs xs → costs (one ∷ xs) ≡ cost one + costs xs
-        → costs (filter (is_of_other number) (one ∷ xs)) ≤ costs (one ∷ xs)
+    by : (b : Bool) → p one ≡ b → costs (filter p xs) ≤ costs xs → costs (one ∷ xs) ≡ cost one + costs xs
+        → costs (filter p (one ∷ xs)) ≤ costs (one ∷ xs)
     by true stays rest parts =
-        let kept : costs (one ∷ filter (is_of_other number) xs) ≡ cost one + costs (filter (is_of_other number) xs) = costs-cons one (filter (is_of_other number) xs) in
-        let less : costs (one ∷ filter (is_of_other number) xs) ≤ costs (one ∷ xs) = omega arith in
+        let kept : costs (one ∷ filter p xs) ≡ cost one + costs (filter p xs) = costs-cons one (filter p xs) in
+        let less : costs (one ∷ filter p xs) ≤ costs (one ∷ xs) = omega arith in
         rw stays less
     by false goes rest parts =
-        let less : costs (filter (is_of_other number) xs) ≤ costs (one ∷ xs) = omega arith in
+        let less : costs (filter p xs) ≤ costs (one ∷ xs) = omega arith in
         rw goes less
 
 -- ---- the whole line

@@ -3,10 +3,12 @@ use Rattle.std.specs.Prelude.{ℕ, ◌+◌, ◌-◌, ◌/◌, ◌==◌, ◌||◌
 use Rattle.std.specs.List.{filter, insert, position_or_len, sum_by}
 use Rattle.program_parking.specs.declared.parked.Parked.{Parked}
 use Rattle.program_parking.specs.declared.counted.Counted.{Counted}
+use Rattle.program_parking.specs.declared.outcome.Outcome.{Outcome}
+use Rattle.program_parking.specs.declared.outcome.Outcome.TheVariants.{Taken, Refused, Waits}
 use Rattle.program_parking.specs.declared.parked.Lent.{Lent}
 
 -- the datagrams that wait, in the order in which they are handed in; whether the first one is being handed in; the
--- greatest number of which a datagram was handed in for good
+-- greatest number of which the lane took a datagram
 pub record LaneValue : Type 0 where
   pub waiting : List Parked
   pub is_lent : Bool
@@ -78,7 +80,7 @@ is_behind number arrival one = nat_lt number one.number || ((one.number == numbe
 abbrev pub behind : ℕ → ℕ → List Parked → List Parked
 behind number arrival waiting = drop (position_or_len (is_behind number arrival) waiting) waiting
 
--- the datagram was handed in for good: it is gone, and so is what came before it
+-- the lane took the datagram: it is gone, and so is what came before it
 abbrev pub handed_in : ℕ → ℕ → LaneValue → LaneValue
 handed_in number arrival lane = record {
   waiting = behind number arrival lane.waiting;
@@ -86,10 +88,19 @@ handed_in number arrival lane = record {
   floor = max lane.floor number;
 }
 
--- the datagram that was being handed in was taken, or stays where it is
-abbrev pub settled : Bool → ℕ → ℕ → LaneValue → LaneValue
-settled true number arrival lane = handed_in number arrival lane
-settled false number arrival lane = record lane { is_lent = false }
+-- a datagram is not the one with this number and arrival
+abbrev pub is_none_of : ℕ → ℕ → Parked → Bool
+is_none_of number arrival one = not (is_one number arrival one)
+
+-- the datagram was refused for good: it alone is gone
+abbrev pub turned_away : ℕ → ℕ → LaneValue → LaneValue
+turned_away number arrival lane = record lane { waiting = filter (is_none_of number arrival) lane.waiting; is_lent = false }
+
+-- the datagram that was being handed in was taken, or refused for good, or stays where it is
+abbrev pub settled : Outcome → ℕ → ℕ → LaneValue → LaneValue
+settled Taken number arrival lane = handed_in number arrival lane
+settled Refused number arrival lane = turned_away number arrival lane
+settled Waits number arrival lane = record lane { is_lent = false }
 
 -- ---- one transaction
 

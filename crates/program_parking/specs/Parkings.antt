@@ -21,7 +21,7 @@ used lanes = sum_by lane_costs lanes
 abbrev pub limit : LaneValue → ParkingValue → ℕ
 limit lane p = min (p.room / 4) (p.room - (used p.lanes - lane_costs lane))
 
--- a datagram comes too late: one with a greater number was handed in for good
+-- a datagram comes too late: its lane took one with a greater number
 abbrev pub is_late : ℕ → LaneValue → Bool
 is_late number lane = nat_lt number lane.floor
 

@@ -1,8 +1,9 @@
 ghost use Rattle.std.specs.Prelude.{◌≡◌, ◌≤◌, ◌<◌, ◌+◌, ◌-◌, [], false, true, not, length, take, drop, IfOk, OnOk, OnErr};
 ghost use Rattle.std.specs.List.{filter, list_any, position, position_or_len};
-ghost use Rattle.program_parking.specs.Lanes.{behind, cost, costs, fitting, halved, inserted, is_above, is_behind, is_crowded, is_of_other, is_one, lendable, lending, oldest, parked_in, settled, transactions, within, without_number};
+ghost use Rattle.program_parking.specs.Lanes.{behind, cost, costs, fitting, halved, inserted, is_above, is_behind, is_crowded, is_none_of, is_of_other, is_one, lendable, lending, oldest, parked_in, settled, transactions, within, without_number};
 
 use crate::counted::Counted;
+use crate::outcome::Outcome;
 use crate::parked::{Lent, Parked, cost_of};
 use std::alloc::{AllocError, Global};
 use std::collections::VecDeque;
@@ -58,7 +59,7 @@ impl LaneParking {
         self.octets
     }
 
-    /// The greatest transaction number of which a datagram was handed in for good, or 0.
+    /// The greatest transaction number of which the lane took a datagram, or 0.
     pub fn floor(&self) -> u64
         ensures { result ≡ self.now.floor }
     {
@@ -103,18 +104,25 @@ impl LaneParking {
         Ok(Some(lent))
     }
 
-    /// Settles the datagram that was lent. If it was handed in for good, it goes, with those before it; else it stays
-    /// where it is.
-    #[tactic(auto, using(crate::proofs::PlaceFacts::costs_drop_less))]
-    pub fn settle(&mut self, number: u64, arrival: u64, is_taken: bool)
-        ensures after { self.new ≡ settled is_taken number arrival self.old }
+    /// Settles the datagram that was lent. If it was taken, it goes, with those before it; if it was refused for good,
+    /// it goes alone; else it stays where it is.
+    #[tactic(auto, using(crate::proofs::PlaceFacts::costs_drop_less, crate::proofs::PlaceFacts::costs_filter, crate::proofs::PlaceFacts::fitting_all))]
+    pub fn settle(&mut self, number: u64, arrival: u64, outcome: Outcome)
+        ensures after { self.new ≡ settled outcome number arrival self.old }
         ensures room { costs self.new.waiting ≤ costs self.old.waiting }
     {
         self.is_lent = false;
-        if is_taken {
-            self.floor = self.floor.max(number);
-            let count = behind_place(&self.waiting, number, arrival);
-            self.octets = drop_front(&mut self.waiting, self.octets, count);
+        match outcome {
+            Outcome::Taken => {
+                self.floor = self.floor.max(number);
+                let count = behind_place(&self.waiting, number, arrival);
+                self.octets = drop_front(&mut self.waiting, self.octets, count);
+            }
+            Outcome::Refused => {
+                take_out(&mut self.waiting, number, arrival);
+                self.octets = fit(&self.waiting, self.octets).1;
+            }
+            Outcome::Waits => {}
         }
     }
 
@@ -280,6 +288,17 @@ fn keep_others(waiting: &mut VecDeque<Parked>, number: u64)
         |one: &Parked| -> bool
             ensures { result ≡ is_of_other number one.now }
         { one.number != number },
+    );
+}
+
+// Takes out the datagram with this number and arrival.
+fn take_out(waiting: &mut VecDeque<Parked>, number: u64, arrival: u64)
+    ensures { waiting.new.items ≡ filter (is_none_of number arrival) waiting.old.items }
+{
+    waiting.retain(
+        |one: &Parked| -> bool
+            ensures { result ≡ is_none_of number arrival one.now }
+        { !(one.number == number && one.arrival == arrival) },
     );
 }
 

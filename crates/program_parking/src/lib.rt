@@ -4,10 +4,12 @@
 
 mod counted;
 mod lane;
+mod outcome;
 mod parked;
 mod parking;
 
 pub use counted::Counted;
 pub use lane::{LaneParking, MOST_DATAGRAMS};
+pub use outcome::Outcome;
 pub use parked::{Lent, Parked};
 pub use parking::Parking;

@@ -4,6 +4,7 @@ ghost use Rattle.program_parking.specs.Lanes.{LaneValue, costs, halved, lendable
 ghost use Rattle.program_parking.specs.Parkings.{IsKept, lendable_at, limit, parked, replaced, used};
 
 use crate::lane::LaneParking;
+use crate::outcome::Outcome;
 use crate::parked::{Lent, Parked};
 use cfdp_types::Octets;
 use std::alloc::{AllocError, Global};
@@ -68,8 +69,8 @@ impl Parking {
 
 impl Parking {
     /// Parks a datagram of a transaction, by its number, which came at `since`, in milliseconds since 1970. Parks
-    /// nothing if a datagram with a greater number was handed in for good. If there is no room, drops the lane's last
-    /// datagrams, those of the highest numbers.
+    /// nothing if the lane took a datagram with a greater number. If there is no room, drops the lane's last datagrams,
+    /// those of the highest numbers.
     pub fn park(
         &mut self,
         place: usize,
@@ -114,14 +115,14 @@ impl Parking {
         Ok(lent)
     }
 
-    /// Settles the datagram that was lent, by its number and arrival. If it was handed in for good, it goes, with those
-    /// before it; else it stays where it is.
-    pub fn settle(&mut self, place: usize, number: u64, arrival: u64, is_taken: bool)
-        ensures { self.new ≡ replaced place (settled is_taken number arrival) self.old }
+    /// Settles the datagram that was lent, by its number and arrival. If it was taken, it goes, with those before it; if
+    /// it was refused for good, it goes alone; else it stays where it is.
+    pub fn settle(&mut self, place: usize, number: u64, arrival: u64, outcome: Outcome)
+        ensures { self.new ≡ replaced place (settled outcome number arrival) self.old }
     {
         if let Some(lane) = self.lanes.get(place) {
             let others = self.octets - lane.octets();
-            let now = settle_at(&mut self.lanes, place, number, arrival, is_taken);
+            let now = settle_at(&mut self.lanes, place, number, arrival, outcome);
             self.octets = others + now;
         }
     }
@@ -184,16 +185,16 @@ fn settle_at(
     place: usize,
     number: u64,
     arrival: u64,
-    is_taken: bool,
+    outcome: Outcome,
 ) -> u64
     requires { place < length lanes.old.items }
     ensures lanes { (lane : LaneValue) → slice_get lanes.old.items place ≡ Some lane
-        → lanes.new.items ≡ set lanes.old.items place (settled is_taken number arrival lane) }
-    ensures octets { (lane : LaneValue) → slice_get lanes.old.items place ≡ Some lane → result ≡ costs (settled is_taken number arrival lane).waiting }
+        → lanes.new.items ≡ set lanes.old.items place (settled outcome number arrival lane) }
+    ensures octets { (lane : LaneValue) → slice_get lanes.old.items place ≡ Some lane → result ≡ costs (settled outcome number arrival lane).waiting }
     ensures less { (lane : LaneValue) → slice_get lanes.old.items place ≡ Some lane → result ≤ costs lane.waiting }
 {
     let lane = &mut lanes[place];
-    lane.settle(number, arrival, is_taken);
+    lane.settle(number, arrival, outcome);
     lane.octets()
 }
 

@@ -2,8 +2,7 @@
 use crate::fault::ProgramFault;
 use crate::files::{CONFIG_OCTETS, octets_of, read_configuration};
 use crate::paths::{push_file_reason, push_path_reason};
-use crate::places::push_place;
-use entity_config::{ConfigFault, Key, read_config};
+use entity_config::{ConfigFault, Key};
 use script_io::write_whole;
 use std::alloc::{AllocError, Global};
 use std::fs::File;
@@ -62,37 +61,13 @@ pub fn push_explanation<R: Net + Files>(
     }
 }
 
-/// Adds a line that says exactly what is wrong, likewise. For a configuration it says the table, the key, the line,
-/// what was found and what is allowed; for a file or an address, the system's reason. Adds nothing about a control
-/// socket or numbers, which others explain.
-pub fn push_reason<R: Net + Files>(
-    rt: &R,
-    alloc: Global,
-    text: &mut String,
-    started: &Started<'_>,
-    fault: &ProgramFault,
-) -> Result<(), AllocError> {
-    match fault {
-        ProgramFault::Read => push_file_reason(rt, text, started.config, u64::MAX),
-        ProgramFault::Config(_) => push_config_reason(rt, alloc, text, started.config),
-        ProgramFault::Bind => match UdpSocket::bind(rt, started.bind) {
-            Err(error) => push_address_reason(text, started.bind, &error),
-            Ok(_) => Ok(()),
-        },
-        _ => Ok(()),
-    }
-}
-
-// Adds what is wrong with a configuration, and where.
-fn push_config_reason<R: Files>(
+/// Adds a line that says why the text of a configuration's file can't be read, if it can't be.
+pub fn push_text_reason<R: Files>(
     rt: &R,
     alloc: Global,
     text: &mut String,
     path: &str,
 ) -> Result<(), AllocError> {
-    if !is_plain(rt, path) {
-        return Ok(());
-    }
     let before = text.len();
     push_file_reason(rt, text, path, CONFIG_OCTETS)?;
     if text.len() > before {
@@ -102,14 +77,24 @@ fn push_config_reason<R: Files>(
         return Ok(());
     };
     match str::from_utf8(octets.as_slice()) {
-        Ok(config) => match read_config(alloc, config) {
-            Err(fault) => push_place(alloc, text, path, config, fault),
-            Ok(_) => Ok(()),
-        },
+        Ok(_) => Ok(()),
         Err(error) => {
             let offset = error.valid_up_to();
             writeln!(text, "{path}: octet {offset} is not UTF-8")
         }
+    }
+}
+
+/// Adds a line that says why no socket for datagrams can be opened at an address, if none can be. To find that out, it
+/// is tried again.
+pub fn push_bind_reason<R: Net>(
+    rt: &R,
+    text: &mut String,
+    address: &str,
+) -> Result<(), AllocError> {
+    match UdpSocket::bind(rt, address) {
+        Err(error) => push_address_reason(text, address, &error),
+        Ok(_) => Ok(()),
     }
 }
 

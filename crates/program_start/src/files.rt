@@ -87,6 +87,17 @@ pub(crate) fn read_configuration<R: Files>(
     }
 }
 
+/// Reads the text of a configuration's file. One that isn't UTF-8, or has more than 16 MiB, has the fault `BadToml`.
+pub fn load_text<R: Files>(rt: &R, alloc: Global, path: &str) -> Result<String, ProgramFault> {
+    let read = read_up_to(rt, alloc, path, CONFIG_OCTETS + 1, 0);
+    let octets = read.map_err(|error| fault_of(&error))?;
+    let is_cut = octets.len() as u64 > CONFIG_OCTETS;
+    match String::from_utf8(octets) {
+        Ok(text) if !is_cut => Ok(text),
+        _ => Err(ProgramFault::Config(ConfigFault::BadToml.number())),
+    }
+}
+
 /// Reads the configuration in a file.
 pub fn load_config<R: Files>(rt: &R, alloc: Global, path: &str) -> Result<Config, ProgramFault> {
     match read_configuration(rt, alloc, path)? {

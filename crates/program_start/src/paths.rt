@@ -2,6 +2,7 @@
 use std::alloc::AllocError;
 use std::fs::{File, Metadata};
 use std::io::ErrorKind;
+use std::os::unix::fs::MetadataExt;
 use std::rt::Files;
 use std::{fs, io};
 
@@ -82,5 +83,26 @@ pub fn folder_of(path: &str) -> &str {
         None => ".",
         Some(("", _)) => "/",
         Some((folder, _)) => folder,
+    }
+}
+
+/// Whether one program alone can hold the file at a path: it is a plain file with one name, or isn't there yet. If the system
+/// doesn't say, it can.
+pub fn may_be_held<R: Files>(rt: &R, path: &str) -> bool {
+    match fs::symlink_metadata(rt, path) {
+        Ok(found) => found.is_file() && found.nlink() == 1,
+        Err(_) => true,
+    }
+}
+
+/// Adds a line that says so if a path is a link, or leads to a file with a second name: another program could hold the file by
+/// another path.
+pub fn push_link_reason<R: Files>(rt: &R, text: &mut String, path: &str) -> Result<(), AllocError> {
+    match fs::symlink_metadata(rt, path) {
+        Ok(found) if found.is_symlink() => writeln!(text, "{path}: is a link"),
+        Ok(found) if found.is_file() && found.nlink() > 1 => {
+            writeln!(text, "{path}: has a second name")
+        }
+        _ => Ok(()),
     }
 }

@@ -1,24 +1,22 @@
 //! Explains a fault of a configuration by its place in the text.
 use crate::explaining::{allowed_at, remedy};
 use entity_config::ConfigFault;
-use fault_places::{Place, Spot, place_of, push_handlers};
-use std::alloc::{AllocError, Global};
+use fault_places::{Place, Spot, push_handlers};
+use std::alloc::AllocError;
 
 /// Adds a line that says what is wrong with a configuration, where, what was found there, and what is allowed.
-pub(crate) fn push_place(
-    alloc: Global,
+pub fn push_place(
     text: &mut String,
     path: &str,
-    config: &str,
+    place: &Place,
     fault: ConfigFault,
 ) -> Result<(), AllocError> {
-    let place = place_of(alloc, config, fault)?;
     write!(text, "{path}: ")?;
     if let Some(line) = place.line {
         write!(text, "line {line}: ")?;
     }
     write!(text, "{fault}")?;
-    push_table(text, &place)?;
+    push_table(text, place)?;
     if !place.key.is_empty() {
         text.push_str("; key: `")?;
         push_visible(text, place.key.as_str())?;
@@ -27,7 +25,7 @@ pub(crate) fn push_place(
     if !place.found.is_empty() {
         write!(text, "; found: {}", place.found)?;
     }
-    push_allowed(text, &place, fault)?;
+    push_allowed(text, place, fault)?;
     text.push_str("\n")
 }
 

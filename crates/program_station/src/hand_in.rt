@@ -1,10 +1,10 @@
 //! The main thread hands in what is parked.
-use crate::parked::hear_step;
 use crate::station::Station;
 use cfdp_types::TxnKey;
 use entity_routing::place_of_key;
 use program_desk::{Step, wall_moment};
-use program_lot::{Handed, Lot, LotAddress, lacks_memory, may_wait};
+use program_lot::{Handed, Lot, LotAddress, Settled, lacks_memory};
+use program_parked::hear_step;
 use program_tallies::RefusalKind;
 use shared_entity::EntityRefusal;
 use shared_lanes::{Names, NoGate};
@@ -25,7 +25,7 @@ impl<'a, N: Names, R: Wait + Copy + Clock> Station<'a, N, R> {
         if let Some(lot) = self.lot
             && lot.is_occupied()
         {
-            lot.poke_all(self.rt);
+            lot.poke_wanting_room(self.rt);
         }
     }
 
@@ -75,7 +75,7 @@ impl<'a, N: Names, R: Wait + Copy + Clock> Station<'a, N, R> {
             .deliver(self.rt, &NoGate, handed.octets.as_slice());
         match answer {
             Ok(Ok(done)) => {
-                lot.settle(self.rt, handed, true, now);
+                lot.settle(self.rt, handed, Settled::Taken, now);
                 self.settle_own(done);
                 true
             }
@@ -86,17 +86,19 @@ impl<'a, N: Names, R: Wait + Copy + Clock> Station<'a, N, R> {
 
     // Settles a datagram that was handed in and refused; returns whether it was refused for good.
     fn hold_back(&mut self, lot: &Lot, handed: Handed, now: u64, refusal: &EntityRefusal) -> bool {
-        if may_wait(lot.takes(), refusal) {
-            lot.settle(self.rt, handed, false, now);
-            return false;
-        }
         if lacks_memory(refusal) {
-            lot.settle(self.rt, handed, false, now);
+            lot.settle(self.rt, handed, Settled::WantsLane, now);
             self.give_way();
             return false;
         }
-        self.note_refused(refusal, handed.octets.as_slice());
-        lot.settle(self.rt, handed, true, now);
+        let settled = Settled::by(lot.takes(), refusal);
+        if settled == Settled::Refused {
+            self.note_refused(refusal, handed.octets.as_slice());
+        }
+        lot.settle(self.rt, handed, settled, now);
+        if settled != Settled::Refused {
+            return false;
+        }
         self.send_echo(refusal);
         true
     }

@@ -1,14 +1,14 @@
 //! The state of the main thread, and its turns.
 use crate::answers::{is_full, obstacle_of};
-use crate::beside::Common;
-use crate::link_book::{Departure, LinkBook};
 use cfdp_types::{Deposit, EntityId, TxnKey};
 use lane_table::Done;
-use program_agenda::{Agenda, Expiry, Fate, Pace, expiry_of, fate_of_pump, fate_of_retry};
+use program_agenda::{Expiry, Fate, fate_of_pump, fate_of_retry};
+use program_common::Common;
 use program_desk::{Desk, Step, moment, wall_moment};
 use program_lot::Lot;
 use program_storing::{Depot, Stored, StoredNote};
 use program_tallies::Tallies;
+use program_timetable::{Choice, Payer, Timetable};
 use program_udp::{PduSender, reach_of};
 use shared_entity::{Entity, EntityRefusal};
 use shared_lanes::{Names, NoGate};
@@ -16,10 +16,6 @@ use std::alloc::{AllocError, Global};
 use std::sync::Wait;
 use std::time::Clock;
 use timer_list::Armed;
-
-// While a limit holds back octets, a turn waits at least this many milliseconds, so that several PDUs leave in the next
-// one. It is less than the slack of a pace, so the limit is still reached.
-const GATHERING_MS: u64 = 5;
 
 // How many PDUs of files are sent in a turn at most, and how many timers expire.
 const PUMPS: usize = 16;
@@ -32,6 +28,9 @@ const TIMER_KINDS: usize = 4;
 // How many timers of a released link run again in a turn at most.
 const GOING_ON: usize = 64;
 
+// How many milliseconds later a file is tried again for which the socket has no room: a fast link empties its buffer in one.
+const ROOM_MS: u64 = 1;
+
 /// How many milliseconds later work that was refused because memory or room in a queue ran out is tried again.
 pub const REST_MS: u64 = 10;
 
@@ -43,18 +42,16 @@ struct Unsettled {
     operations_done: usize,
 }
 
-/// An entity with the state of its main thread: the agenda, where received files are left to be stored, and what waits
-/// for memory. Nothing new is begun while something waits for memory.
+/// An entity with the state of its main thread: what is due and when, where received files are left to be stored, and
+/// what waits for memory. Nothing new is begun while something waits for memory.
 #[derive(Drop)]
 pub struct Station<'a, N: Names, R: Copy> {
     pub(crate) rt: &'a R,
     pub(crate) entity: &'a Entity<N, R>,
     sender: PduSender<'a>,
     depot: &'a Depot,
-    agenda: Agenda,
-    /// How fast octets may be sent over the links without a limit of their own.
-    pace: Pace,
-    links: LinkBook<'a>,
+    /// Its timers, the files under way, and its links.
+    pub timetable: Timetable<'a>,
     reach: u64,
     unsettled: Option<Unsettled>,
     kept_timer: Option<Armed>,
@@ -78,16 +75,13 @@ impl<'a, N: Names, R: Wait + Copy + Clock> Station<'a, N, R> {
         octets_a_second: Option<u64>,
     ) -> Result<Station<'a, N, R>, AllocError> {
         let (rt, alloc, entity) = (common.rt, common.alloc, common.entity);
-        let mut agenda = Agenda::new(alloc);
-        agenda.reserve_timers(depot.room().saturating_mul(TIMER_KINDS))?;
+        let timers = depot.room().saturating_mul(TIMER_KINDS);
         Ok(Station {
             rt,
             entity,
             sender,
             depot,
-            agenda,
-            pace: Pace::new(octets_a_second),
-            links: LinkBook::new(alloc, entity.config(), tallies)?,
+            timetable: Timetable::new(alloc, entity.config(), tallies, timers, octets_a_second)?,
             reach: 0,
             unsettled: None,
             kept_timer: None,
@@ -99,63 +93,16 @@ impl<'a, N: Names, R: Wait + Copy + Clock> Station<'a, N, R> {
         })
     }
 
-    /// Gives a remote entity its own limit in octets a second for files from a moment on, or takes it away; whatever
-    /// else is sent to it counts, too. Returns whether the configuration has the entity.
+    /// Gives a remote entity its own limit in octets a second for files from a moment on. Returns whether the
+    /// configuration has the entity.
     pub fn limit(&mut self, remote: EntityId, octets_a_second: Option<u64>, now: u64) -> bool {
-        match self.links.place_of(remote) {
-            Some(place) => {
-                self.links.limit(place, octets_a_second, now);
-                self.agenda.wake_all();
-                true
-            }
-            None => false,
-        }
+        self.timetable.limit(remote, octets_a_second, now)
     }
 
-    /// Limits the octets a second for files over all links without a limit of their own from a moment on, or lifts that
-    /// limit.
-    pub fn limit_rest(&mut self, octets_a_second: Option<u64>, now: u64) {
-        self.pace = self.pace.limited(octets_a_second, now);
-        self.agenda.wake_all();
-    }
-
-    /// Holds the link to a remote entity from a moment on, in milliseconds since 1970: nothing is sent to it, its files
-    /// rest, and its timers rest once they expire. Returns whether the configuration has the entity.
-    pub fn hold(&mut self, remote: EntityId, at: u64) -> bool {
-        match self.links.place_of(remote) {
-            Some(place) => {
-                self.links.hold(place, at);
-                true
-            }
-            None => false,
-        }
-    }
-
-    /// Opens the link to a remote entity again, at a moment of the runtime's clock. Returns whether the configuration
+    /// Holds the link to a remote entity from a moment on, in milliseconds since 1970. Returns whether the configuration
     /// has the entity.
-    pub fn release(&mut self, remote: EntityId, now: u64) -> bool {
-        match self.links.place_of(remote) {
-            Some(place) => {
-                if self.links.release(place, now) {
-                    self.agenda.wake_all();
-                }
-                true
-            }
-            None => false,
-        }
-    }
-
-    /// Whether the configuration has a remote entity.
-    pub fn is_known(&self, remote: EntityId) -> bool {
-        self.links.place_of(remote).is_some()
-    }
-
-    /// Whether the link to a remote entity is held.
-    pub fn is_held(&self, remote: EntityId) -> bool {
-        match self.links.place_of(remote) {
-            Some(place) => self.links.is_held(place),
-            None => false,
-        }
+    pub fn hold(&mut self, remote: EntityId, at: u64) -> bool {
+        self.timetable.hold(remote, at)
     }
 
     /// The entity.
@@ -166,17 +113,6 @@ impl<'a, N: Names, R: Wait + Copy + Clock> Station<'a, N, R> {
     /// How far into its file the data that was sent reaches: the greatest end of a segment, over all files.
     pub fn reach(&self) -> u64 {
         self.reach
-    }
-
-    /// Reserves memory for one more file.
-    pub fn reserve(&mut self) -> Result<(), AllocError> {
-        self.agenda.reserve()
-    }
-
-    /// Begins to send a file to a remote entity, for which memory is reserved.
-    pub fn begin(&mut self, key: TxnKey, destination: EntityId) {
-        self.links.begin(key, destination);
-        let _room_was_made = self.agenda.begin(key);
     }
 
     /// Whether nothing waits for memory.
@@ -200,7 +136,7 @@ impl<'a, N: Names, R: Wait + Copy + Clock> Station<'a, N, R> {
     // Notes the rest of a step: its timers, its deposit, and that its transaction's file need not rest any more. If
     // memory runs out, `catch_up` continues later, before anything else.
     fn settle(&mut self, step: Step) {
-        self.agenda.rest(step.key, 0);
+        self.timetable.wake(step.key);
         self.note(Unsettled {
             step,
             operations_done: 0,
@@ -217,7 +153,7 @@ impl<'a, N: Names, R: Wait + Copy + Clock> Station<'a, N, R> {
             let Some(operation) = step.timers.as_slice().get(place) else {
                 break;
             };
-            if self.agenda.apply(*operation, step.at).is_err() {
+            if self.timetable.apply(*operation, step.at).is_err() {
                 self.unsettled = Some(Unsettled {
                     step,
                     operations_done: place,
@@ -239,7 +175,7 @@ impl<'a, N: Names, R: Wait + Copy + Clock> Station<'a, N, R> {
 
     // Lets a timer run again.
     fn put_back(&mut self, timer: Armed) {
-        if let Err(back) = self.agenda.put_back(timer) {
+        if let Err(back) = self.timetable.put_back(timer) {
             self.kept_timer = Some(back);
         }
     }
@@ -320,15 +256,14 @@ impl<'a, N: Names, R: Wait + Copy + Clock> Station<'a, N, R> {
 
     // Lets timers run again that rested for a link that is open again. Returns whether there was such a link.
     fn go_on(&mut self) -> bool {
-        let Some(place) = self.links.going_on() else {
+        let Some(place) = self.timetable.going_on() else {
             return false;
         };
         for _ in 0..GOING_ON {
             if !self.is_settled() {
                 break;
             }
-            let Some(timer) = self.agenda.next_resting(place) else {
-                self.links.has_gone_on(place);
+            let Some(timer) = self.timetable.next_resting(place) else {
                 break;
             };
             self.put_back(timer);
@@ -348,16 +283,15 @@ impl<'a, N: Names, R: Wait + Copy + Clock> Station<'a, N, R> {
         has_expired
     }
 
-    // Handles a timer that has expired, if there is one. On a held link it rests, and after a release silence counts
-    // anew.
+    // Handles a timer that has expired, if there is one.
     fn expire(&mut self, now: u64) -> bool {
-        let Some(timer) = self.agenda.due(now) else {
+        let Some((timer, expiry)) = self.timetable.next_expired(now) else {
             return false;
         };
-        match expiry_of(timer, self.links.timed_link(timer.key), now) {
+        match expiry {
             Expiry::Fires => self.tell_expired(timer, now),
             Expiry::Rests(remote) => {
-                if let Err(back) = self.agenda.lay_by(remote, timer) {
+                if let Err(back) = self.timetable.lay_by(remote, timer) {
                     self.kept_timer = Some(back);
                 }
                 true
@@ -415,49 +349,40 @@ impl<'a, N: Names, R: Wait + Copy + Clock> Station<'a, N, R> {
         let _there_was_room = self.note_full(key);
     }
 
-    // Sends the next PDUs of files in turn, as many as the pace and memory allow; returns whether there was one.
+    // Sends the next PDUs of files in turn, as many as the pace, the system and memory allow; returns whether there was
+    // one. Files for which the socket has no room rest for a moment.
     fn pump_some(&mut self, now: u64) -> bool {
         let mut has_pumped = false;
+        let mut has_room = false;
         for _ in 0..PUMPS {
-            if !self.is_settled() || !self.pump(now) {
+            if !self.is_settled() {
                 break;
+            }
+            match self.timetable.choose(now) {
+                Choice::Nothing => break,
+                Choice::Rests => {}
+                Choice::Sends(key, payer) => {
+                    has_room = has_room || self.sender.has_room();
+                    if !has_room {
+                        self.timetable.put_off(key, Fate::Again, now, ROOM_MS);
+                    } else if !self.pump_file(key, payer, now) {
+                        break;
+                    }
+                }
             }
             has_pumped = true;
         }
         has_pumped
     }
 
-    // Sends the next PDU of the file whose turn it is, if there is one and its pace allows.
-    fn pump(&mut self, now: u64) -> bool {
-        if !self.links.has_paces() && !self.pace.is_free(now) {
-            return false;
-        }
-        let Some(key) = self.agenda.next_sending(now) else {
-            return false;
-        };
-        let departure = self.links.departure(key, now);
-        let until = match departure {
-            Departure::Shared if !self.pace.is_free(now) => self.pace.free_moment(),
-            Departure::Shared | Departure::Now => return self.pump_file(key, departure, now),
-            Departure::From(moment) => moment,
-            Departure::Held => u64::MAX,
-        };
-        self.agenda.rest(key, until);
-        true
-    }
-
     // Sends the next PDU of a file.
-    fn pump_file(&mut self, key: TxnKey, departure: Departure, now: u64) -> bool {
+    fn pump_file(&mut self, key: TxnKey, payer: Payer, now: u64) -> bool {
         match self.entity.pump(self.rt, &NoGate, key) {
             Ok(Ok(done)) => {
                 let octets = self.sender.send_done(&done) as u64;
                 let reach = reach_of(&done);
                 self.reach = self.reach.max(reach);
-                if departure == Departure::Shared {
-                    self.pace = self.pace.spend(octets, now);
-                } else {
-                    self.links.note_sent(key, octets, now);
-                }
+                self.timetable.note_sent(key, payer, octets, now);
                 if reach == 0 {
                     self.may_have_ended = true;
                 }
@@ -481,11 +406,8 @@ impl<'a, N: Names, R: Wait + Copy + Clock> Station<'a, N, R> {
         if is_full(refusal) {
             let _noted_where_there_is_memory = self.note_full(key);
         }
-        match fate_of_pump(obstacle_of(refusal)) {
-            Fate::Again => self.agenda.rest(key, now.saturating_add(REST_MS)),
-            Fate::Awaits => self.agenda.rest(key, u64::MAX),
-            Fate::Over => self.agenda.forget(key),
-        }
+        let fate = fate_of_pump(obstacle_of(refusal));
+        self.timetable.put_off(key, fate, now, REST_MS);
     }
 
     /// After a turn without work: the moment until which there is nothing to do unless another thread leaves work.
@@ -493,12 +415,6 @@ impl<'a, N: Names, R: Wait + Copy + Clock> Station<'a, N, R> {
         if !self.is_settled() {
             return now.saturating_add(REST_MS);
         }
-        let mut sending = self.agenda.soonest_sending();
-        if !self.links.has_paces() && !self.pace.is_free(now) {
-            let free = self.pace.free_moment();
-            sending = sending.max(free.max(now.saturating_add(GATHERING_MS)));
-        }
-        let until = self.agenda.soonest_timer().min(sending);
-        until.min(self.soonest_parked())
+        self.timetable.next_moment(now).min(self.soonest_parked())
     }
 }

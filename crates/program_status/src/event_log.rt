@@ -87,6 +87,14 @@ impl<R: Files> EventLog<R> {
         self.lost
     }
 
+    /// Whether events of a level are written.
+    pub(crate) fn takes(&self, level: Level) -> bool {
+        match self.least {
+            None => true,
+            Some(least) => level.reaches(least),
+        }
+    }
+
     /// Only events of a level and above are written from now on, with their levels.
     pub fn write_from(&mut self, least: Level) {
         self.least = Some(least);

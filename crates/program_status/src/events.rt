@@ -4,8 +4,8 @@ use crate::refused::{origin_of, refused_case};
 use crate::streams::{Streams, WORD, form_of, stream_of};
 use cfdp_types::{EntityId, TxnKey};
 use event_levels::{EventKind, Level};
-use indications::Bundle;
-use kept_events::KeptEvents;
+use indications::{Bundle, Indication};
+use kept_events::{KeptEvents, SegmentEvent};
 use program_seats::{Asker, Seats};
 use program_tallies::RefusalCase;
 use station_lines::{
@@ -26,7 +26,7 @@ pub struct Events<'a, R: Files> {
     alloc: Global,
     seats: Option<&'a Seats>,
     log: Option<EventLog<R>>,
-    kept: KeptEvents,
+    kept: KeptEvents<'a>,
     number: u64,
     /// What is sent to the clients that follow at the end of the turn.
     streams: Streams,
@@ -164,21 +164,43 @@ impl<'a, R: Wait + Files> Events<'a, R> {
     }
 
     /// Reports a bundle's indications to the user of this name. Those of a large bundle are written to the log in
-    /// pieces.
-    pub fn receive(&mut self, rt: &R, at: Moment, user: &str, bundle: &Bundle) {
+    /// pieces. The line of a segment is written only if somebody reads it.
+    pub fn receive(&mut self, rt: &R, at: Moment, user: &'a str, bundle: &Bundle) {
         for indication in bundle.inds.as_slice() {
-            let event = IndicationEvent {
-                user,
-                key: bundle.key,
-                indication,
-            };
             let head = self.next_head(at);
-            let line = indication_line(self.alloc, head, &event);
-            self.add(EventKind::Indication(indication), line);
+            match indication {
+                Indication::FileSegmentRecv { offset, length } if !self.is_read(Level::Detail) => {
+                    self.kept.push_segment(SegmentEvent {
+                        head,
+                        user,
+                        key: bundle.key,
+                        offset: *offset,
+                        length: *length,
+                    });
+                }
+                _ => {
+                    let event = IndicationEvent {
+                        user,
+                        key: bundle.key,
+                        indication,
+                    };
+                    let line = indication_line(self.alloc, head, &event);
+                    self.add(EventKind::Indication(indication), line);
+                }
+            }
             if let Some(log) = &mut self.log {
                 log.relieve(rt);
             }
         }
+    }
+
+    // Whether a client that follows, or the log, gets the events of a level.
+    fn is_read(&self, level: Level) -> bool {
+        let is_logged = match &self.log {
+            Some(log) => log.takes(level),
+            None => false,
+        };
+        is_logged || self.streams.is_followed(level)
     }
 
     /// Reports that a Put opened a transaction.

@@ -88,6 +88,13 @@ impl Streams {
         }
     }
 
+    /// Whether any client follows the events of a level.
+    pub(crate) fn is_followed(&self, level: Level) -> bool {
+        self.streams
+            .iter()
+            .any(|stream| stream.is_followed && level.reaches(stream.least))
+    }
+
     /// Adds an event for the clients that follow.
     pub(crate) fn add(&mut self, level: Level, line: &[u8]) {
         for stream in self.streams.iter_mut() {

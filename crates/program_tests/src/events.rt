@@ -5,14 +5,14 @@ use std::alloc::{AllocError, Global};
 use std::fs;
 use std::test::*;
 
-fn push(alloc: Global, kept: &mut KeptEvents, number: usize) -> Result<(), AllocError> {
+fn push(alloc: Global, kept: &mut KeptEvents<'_>, number: usize) -> Result<(), AllocError> {
     let mut line = String::new(alloc);
     writeln!(line, "{number}")?;
     kept.push(Level::Detail, line.as_bytes())
 }
 
 // Adds two events more than there is room for, and before them one that matters.
-fn fill(alloc: Global, kept: &mut KeptEvents) -> Result<(), AllocError> {
+fn fill(alloc: Global, kept: &mut KeptEvents<'_>) -> Result<(), AllocError> {
     kept.push(Level::Warning, b"{\"a\":1}\n")?;
     for number in 0..KEPT_LINES + 2 {
         push(alloc, kept, number)?;
@@ -21,7 +21,7 @@ fn fill(alloc: Global, kept: &mut KeptEvents) -> Result<(), AllocError> {
 }
 
 // The last events are kept, as many as there is room for, and given after a word.
-fn gives_last(kept: &KeptEvents, text: &mut Vec<u8>) -> Result<bool, AllocError> {
+fn gives_last(kept: &KeptEvents<'_>, text: &mut Vec<u8>) -> Result<bool, AllocError> {
     kept.push_last(text, b"event ", Level::Detail, 2, Form::Plain)?;
     let is_last = text.as_slice() == b"event 1024\nevent 1025\n".as_slice();
     text.clear();
@@ -30,7 +30,7 @@ fn gives_last(kept: &KeptEvents, text: &mut Vec<u8>) -> Result<bool, AllocError>
 }
 
 // Those that matter are kept beside them, with their levels where these are requested.
-fn gives_notable(kept: &KeptEvents, text: &mut Vec<u8>) -> Result<bool, AllocError> {
+fn gives_notable(kept: &KeptEvents<'_>, text: &mut Vec<u8>) -> Result<bool, AllocError> {
     kept.push_last(text, b"", Level::Info, KEPT_LINES, Form::Labelled)?;
     Ok(text.as_slice() == b"{\"a\":1,\"level\":\"warning\"}\n".as_slice())
 }

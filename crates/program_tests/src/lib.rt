@@ -1,5 +1,5 @@
-//! Parts of the programs, as their callers see them: command lines, the agenda, the desk, seats, counts, events, the
-//! file of numbers, and the lines of a station, octet for octet.
+//! Parts of the programs, as their callers see them: command lines, the agenda, the desk, seats, counts, events, and the
+//! lines of a station, octet for octet.
 #![tactic(auto)]
 
 #[cfg(test)]
@@ -10,8 +10,6 @@ mod desk;
 mod event_lines;
 #[cfg(test)]
 mod events;
-#[cfg(test)]
-mod numbers;
 #[cfg(test)]
 mod parking;
 #[cfg(test)]

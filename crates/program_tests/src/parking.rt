@@ -1,4 +1,4 @@
-use program_parking::{Lent, Parking};
+use program_parking::{Lent, Outcome, Parking};
 use std::alloc::{AllocError, Global};
 use std::test::*;
 
@@ -15,7 +15,7 @@ fn is_parked(alloc: Global) -> Result<bool, AllocError> {
     parking.park(1, 5, 200, b"early")?;
     let has_both = parking.used() == 137;
     let is_lowest = number_of(parking.lend(1)?) == Some(5) && number_of(parking.lend(1)?).is_none();
-    parking.settle(1, 5, 1, false);
+    parking.settle(1, 5, 1, Outcome::Waits);
     let Some(lane) = parking.lanes().get(1) else {
         return Ok(false);
     };

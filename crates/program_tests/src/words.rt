@@ -1,5 +1,5 @@
 use cfdp_types::{Class, EntityId};
-use program_words::{PeerLanes, PutWords, Rate, ServerWords, put_words, server_words};
+use program_words::{EntityWords, PutWords, ServerWords, put_words, server_words};
 use std::alloc::{AllocError, Global};
 use std::test::*;
 
@@ -45,46 +45,33 @@ fn lines_of_puts(rt: HostRuntime) -> Result<(), Fail> {
     Ok(())
 }
 
-const SERVER: &str = "s --config c --bind 1.2.3.4:5 --folder f";
-
-// Options of the server, and whether they are accepted.
-const SERVERS: [(&str, bool); 22] = [
-    ("--workers 1 --rate 1000000000 --follow", true),
-    ("--control=", false),
-    ("--log=", false),
-    ("--rate 7=5 --rate 7=6", false),
-    ("--rate 5 --rate 5", false),
-    ("--rate =5", false),
-    ("--rate 7=", false),
-    ("--rate 7=0", false),
-    ("--retry 0", false),
-    ("--workers 17", false),
-    ("--park 0 --lanes 7=8 --lanes 8=none", true),
-    ("--park=1000000000000 --lanes=7=1", true),
-    ("--park 1000000000001", false),
-    ("--park -1", false),
-    ("--park=", false),
-    ("--lanes 7=0", false),
-    ("--lanes 7=9", false),
-    ("--lanes 7=", false),
-    ("--lanes 7=None", false),
-    ("--lanes =4", false),
-    ("--lanes 4", false),
-    ("--lanes 7=2 --lanes 7=none", false),
+// Words of the server, and whether they are accepted.
+const SERVERS: [(&str, bool); 14] = [
+    ("station.toml", true),
+    ("-- --config", true),
+    ("--check station.toml", true),
+    ("--config c --bind 1.2.3.4:5 --folder f", true),
+    ("--config c --bind 1.2.3.4:5 --folder f --workers 17", false),
+    ("--config c --bind 1.2.3.4:05 --folder f", false),
+    ("--config c --bind 1.2.3.4:5 --folder=", false),
+    ("--config c --bind 1.2.3.4:5", false),
+    ("--config c --bind 1.2.3.4:5 --folder f more", false),
+    ("--check c --config c --bind 1.2.3.4:5 --folder f", false),
+    ("--check a b", false),
+    ("--workers 2 a", false),
+    ("a b", false),
+    ("--control c a", false),
 ];
 
-fn is_server_taken(alloc: Global, options: &str) -> Result<bool, AllocError> {
-    let words = words_of(alloc, SERVER, options)?;
+fn is_server_taken(alloc: Global, line: &str) -> Result<bool, AllocError> {
+    let words = words_of(alloc, "s", line)?;
     Ok(server_words(alloc, words.as_slice()).is_ok())
 }
 
 #[test]
 fn lines_of_servers(rt: HostRuntime) -> Result<(), Fail> {
-    for (options, is_taken) in SERVERS {
-        assert!(rt;
-            is_server_taken(rt.alloc(), options)? == is_taken,
-            "{options}"
-        );
+    for (line, is_taken) in SERVERS {
+        assert!(rt; is_server_taken(rt.alloc(), line)? == is_taken, "{line}");
     }
     Ok(())
 }
@@ -98,46 +85,9 @@ fn is_put(words: &PutWords<'_>) -> bool {
         && !words.known_sources
 }
 
-fn has_options(words: &ServerWords<'_>) -> bool {
-    (words.config, words.bind, words.folder) == ("c", "1.2.3.4:5", "f")
-        && (words.workers, words.retry, words.park) == (16, Some(60), 9)
-        && (words.control, words.log, words.numbers) == (Some("/run/c"), Some("l"), None)
-        && words.known_sources
-        && words.strict_sources
-        && words.abandon_full
-        && words.hold
-        && words.tree
-        && words.keep
-        && !words.follow
+fn is_entity(words: &EntityWords<'_>, workers: u64) -> bool {
+    (words.config, words.bind, words.folder) == ("c", "1.2.3.4:5", "f") && words.workers == workers
 }
-
-// Limits of single remote entities besides one for all the rest.
-const RATES: [Rate; 3] = [
-    Rate {
-        remote: Some(EntityId(7)),
-        octets: 5,
-    },
-    Rate {
-        remote: None,
-        octets: 9,
-    },
-    Rate {
-        remote: Some(EntityId(8)),
-        octets: 6,
-    },
-];
-
-// Receiving lanes of remote entities.
-const LANES: [PeerLanes; 2] = [
-    PeerLanes {
-        remote: EntityId(7),
-        lanes: Some(4),
-    },
-    PeerLanes {
-        remote: EntityId(8),
-        lanes: None,
-    },
-];
 
 fn puts_as_told(alloc: Global) -> Result<bool, AllocError> {
     let rest = "--first 9 --rate 1 s --class 2 --remote 7 --numbers n --closure t";
@@ -148,37 +98,44 @@ fn puts_as_told(alloc: Global) -> Result<bool, AllocError> {
     })
 }
 
-fn serves_as_told(alloc: Global) -> Result<bool, AllocError> {
-    let options =
-        "--rate 7=5 --rate 9 --rate=8=6 --hold --tree --keep --retry 60 --workers=16 --control=/run/c --log l --known-sources --strict-sources --abandon-full --park 9 --lanes 7=4 --lanes=8=none";
-    let words = words_of(alloc, SERVER, options)?;
+// Whether a line names a station's file.
+fn is_station(alloc: Global, line: &str, path: &str) -> Result<bool, AllocError> {
+    let words = words_of(alloc, "s", line)?;
     Ok(match server_words(alloc, words.as_slice()) {
-        Ok(words) => {
-            has_options(&words)
-                && words.rates.as_slice() == RATES.as_slice()
-                && words.lanes.as_slice() == LANES.as_slice()
-        }
-        Err(_) => false,
+        Ok(ServerWords::Station(told)) => told == path,
+        _ => false,
+    })
+}
+
+// Whether a line asks for a check of a file.
+fn is_check(alloc: Global, line: &str, path: &str) -> Result<bool, AllocError> {
+    let words = words_of(alloc, "s", line)?;
+    Ok(match server_words(alloc, words.as_slice()) {
+        Ok(ServerWords::Check(told)) => told == path,
+        _ => false,
+    })
+}
+
+// Whether a line names what an entity needs, and it has so many workers.
+fn is_entity_line(alloc: Global, line: &str, workers: u64) -> Result<bool, AllocError> {
+    let words = words_of(alloc, "s", line)?;
+    Ok(match server_words(alloc, words.as_slice()) {
+        Ok(ServerWords::Entity(told)) => is_entity(&told, workers),
+        _ => false,
     })
 }
 
 #[test]
 fn values(rt: HostRuntime) -> Result<(), Fail> {
-    assert!(rt; puts_as_told(rt.alloc())? && serves_as_told(rt.alloc())?);
+    let alloc = rt.alloc();
+    assert!(rt; puts_as_told(alloc)? && is_station(alloc, "x", "x")?);
+    assert!(rt; is_check(alloc, "--check x", "x")?);
     Ok(())
 }
 
-// Without these options 64,000,000 octets are kept, and no entity's lanes are named.
-fn keeps_by_default(alloc: Global) -> Result<bool, AllocError> {
-    let words = words_of(alloc, SERVER, "--hold")?;
-    Ok(match server_words(alloc, words.as_slice()) {
-        Ok(words) => words.park == 64_000_000 && words.lanes.is_empty(),
-        Err(_) => false,
-    })
-}
-
 #[test]
-fn default_values(rt: HostRuntime) -> Result<(), Fail> {
-    assert!(rt; keeps_by_default(rt.alloc())?);
+fn entities(rt: HostRuntime) -> Result<(), Fail> {
+    let line = "--config c --bind 1.2.3.4:5 --folder f";
+    assert!(rt; is_entity_line(rt.alloc(), line, 4)?);
     Ok(())
 }

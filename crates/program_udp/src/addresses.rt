@@ -1,7 +1,7 @@
 //! The addresses of remote entities, looked up once.
 ghost use Rattle.std.specs.Prelude.{◌≡◌, ◌↔◌, All, IfOk, IfSome, IsTrue};
 ghost use Rattle.config_reading.specs.Values.{ConfigValue};
-ghost use Rattle.program_udp.specs.Peers.{FirstAt, IsAt, ListensAt, StandsAt, peer_among};
+ghost use Rattle.program_udp.specs.Peers.{FirstAt, Fits, IsAt, ListensAt, StandsAt, peer_among};
 
 use crate::peers::address_of;
 use cfdp_types::EntityId;
@@ -16,6 +16,14 @@ pub struct PeerAddress {
     /// Its number among the remote entities of the configuration.
     pub place: usize,
     pub address: SocketAddr,
+}
+
+/// What of a source address is compared with an entity's address.
+#[derive(Clone, Copy, Debug, PartialEq, Eq)]
+pub enum Compared {
+    Whole,
+    /// The host alone, whatever the port.
+    Host,
 }
 
 /// The remote entities of a configuration whose address can be read, with their addresses.
@@ -60,17 +68,21 @@ pub fn peer_among(peers: &[PeerAddress], id: EntityId) -> Option<PeerAddress>
     }
 }
 
-/// The number in the configuration of the first entity with this address.
-pub fn place_of_address(peers: &[PeerAddress], address: SocketAddr) -> Option<usize>
-    ensures { FirstAt peers.now address result }
+/// The number in the configuration of the first entity whose address fits this one.
+pub fn place_of_address(
+    peers: &[PeerAddress],
+    address: SocketAddr,
+    compared: Compared,
+) -> Option<usize>
+    ensures { FirstAt compared peers.now address result }
 {
     match peers {
         [] => None,
         [first, rest @ ..] => {
-            if listens_at(first, address) {
+            if fits(first, address, compared) {
                 Some(first.place)
             } else {
-                place_of_address(rest, address)
+                place_of_address(rest, address, compared)
             }
         }
     }
@@ -81,13 +93,17 @@ pub fn is_at(peers: &[PeerAddress], id: EntityId, address: SocketAddr) -> bool
     ensures { IsTrue result ↔ IsAt (peer_among peers.now id) address }
 {
     match peer_among(peers, id) {
-        Some(peer) => listens_at(&peer, address),
+        Some(peer) => fits(&peer, address, Compared::Whole),
         None => false,
     }
 }
 
-fn listens_at(peer: &PeerAddress, address: SocketAddr) -> bool
-    ensures { IsTrue result ↔ (peer.now.address ≡ address) }
+// Whether an entity's address fits this one.
+fn fits(peer: &PeerAddress, address: SocketAddr, compared: Compared) -> bool
+    ensures { IsTrue result ↔ Fits compared peer.now.address address }
 {
-    peer.address == address
+    match compared {
+        Compared::Whole => peer.address == address,
+        Compared::Host => peer.address.ip() == address.ip(),
+    }
 }

@@ -6,10 +6,11 @@ mod addresses;
 mod opening;
 mod peers;
 mod reach;
+mod room;
 mod sender;
 mod widening;
 
-pub use addresses::{PeerAddress, addresses_of, peer_among, place_of_address};
+pub use addresses::{Compared, PeerAddress, addresses_of, peer_among, place_of_address};
 pub use opening::open_socket;
 pub use peers::{address_of, other_end_of};
 pub use reach::reach_of;

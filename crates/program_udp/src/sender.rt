@@ -1,5 +1,6 @@
-use crate::addresses::{PeerAddress, addresses_of, is_at, peer_among, place_of_address};
+use crate::addresses::{Compared, PeerAddress, addresses_of, is_at, peer_among, place_of_address};
 use crate::peers::{near_end_of, other_end_of};
+use crate::room::has_room;
 use entity_config::Config;
 use lane_table::Done;
 use pdu_codec::encode;
@@ -43,14 +44,19 @@ impl<'a> PduSender<'a> {
         })
     }
 
-    /// The number in the configuration of the remote entity with this address.
-    pub fn place_of(&self, address: SocketAddr) -> Option<usize> {
-        place_of_address(self.peers.as_slice(), address)
+    /// The number in the configuration of the first remote entity whose address fits this one.
+    pub fn place_of(&self, address: SocketAddr, compared: Compared) -> Option<usize> {
+        place_of_address(self.peers.as_slice(), address, compared)
     }
 
     /// Whether the entity from which a PDU says it comes has this address.
     pub fn comes_from(&self, pdu: &Pdu, address: SocketAddr) -> bool {
         is_at(self.peers.as_slice(), near_end_of(pdu), address)
+    }
+
+    /// Whether the system has room for some datagrams, so that none of them waits. If it can't be asked, it has.
+    pub fn has_room(&self) -> bool {
+        has_room(self.socket)
     }
 
     /// Sends a PDU to the entity at the other end; returns how many octets were sent.

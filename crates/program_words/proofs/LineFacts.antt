@@ -7,10 +7,12 @@ use Rattle.clap.specs.declared.parser.matches.ArgMatches.{ArgMatches}
 use Rattle.clap.specs.Words.{App, HasMatchesOf, Row, Text, all_of, first_of, found_of, is_simple, one_of, rows_of}
 use Rattle.clap.proofs.OnLiterals.{clap_on_literals}
 use Rattle.clap.proofs.WalkLemmas.{first_value-rows, one_text-rows, raw_values-rows}
-use Rattle.program_words.specs.Lines.{Givings, IsFlag, PutSays, ServerSays, found_in, check_program, given_by, put_program, server_program}
-use Rattle.program_words.specs.Numbers.{all_lanes_of, class_of, first_number, level_of, limit_of, mode_of, most_of, number_within, park_of, rates_of, seconds_of, workers_of}
+use Rattle.program_words.specs.Lines.{EntitySays, Givings, IsAlone, IsFlag, PutSays, ServerSays, found_in, check_program, given_by, put_program, server_program}
+use Rattle.program_words.specs.Numbers.{class_of, first_number, limit_of, number_within, workers_of}
 use Rattle.program_words.specs.declared.putting.PutWords.{PutWords}
+use Rattle.program_words.specs.declared.serving.EntityWords.{EntityWords}
 use Rattle.program_words.specs.declared.serving.ServerWords.{ServerWords}
+use Rattle.program_words.specs.declared.serving.ServerWords.TheVariants as told
 
 pub put_simple : is_simple put_program ≡ true
 unfolding clap_on_literals
@@ -31,38 +33,30 @@ in_rows rows = record { first = λ name. first_of name rows; one = λ name. one_
 flag_by : (found : Found) (name : Text) (is_there : _) → IsFlag ((found_in found).one name) is_there → IsFlag ((in_rows (rows_of found)).one name) is_there
 flag_by found name is_there said = subst (λ text. IsFlag text is_there) (one_text-rows found name) said
 
-server_in_rows : (found : Found) (words : ServerWords) → ServerSays (found_in found) words → ServerSays (in_rows (rows_of found)) words
-server_in_rows found words said = record {
+alone_in_rows : (found : Found) → IsAlone (found_in found) → IsAlone (in_rows (rows_of found))
+alone_in_rows found said = record {
+  config = sym (first_value-rows found (codes "config")) ∙ said.config;
+  bind = sym (first_value-rows found (codes "bind")) ∙ said.bind;
+  folder = sym (first_value-rows found (codes "folder")) ∙ said.folder;
+  workers = sym (first_value-rows found (codes "workers")) ∙ said.workers;
+}
+
+entity_in_rows : (found : Found) (words : EntityWords) → EntitySays (found_in found) words → EntitySays (in_rows (rows_of found)) words
+entity_in_rows found words said = record {
   config = sym (first_value-rows found (codes "config")) ∙ said.config;
   bind = sym (first_value-rows found (codes "bind")) ∙ said.bind;
   folder = sym (first_value-rows found (codes "folder")) ∙ said.folder;
   workers = ap workers_of (sym (first_value-rows found (codes "workers"))) ∙ said.workers;
-  rates = ap rates_of (sym (raw_values-rows found (codes "rate"))) ∙ said.rates;
-  follow = flag_by found (codes "follow") words.follow said.follow;
-  control = sym (first_value-rows found (codes "control")) ∙ said.control;
-  status_socket = sym (first_value-rows found (codes "status-socket")) ∙ said.status_socket;
-  log = sym (first_value-rows found (codes "log")) ∙ said.log;
-  numbers = sym (first_value-rows found (codes "numbers")) ∙ said.numbers;
-  known_sources = flag_by found (codes "known-sources") words.known_sources said.known_sources;
-  hold = flag_by found (codes "hold") words.hold said.hold;
-  tree = flag_by found (codes "tree") words.tree said.tree;
-  keep = flag_by found (codes "keep") words.keep said.keep;
-  retry = ap seconds_of (sym (first_value-rows found (codes "retry"))) ∙ said.retry;
-  park = ap park_of (sym (first_value-rows found (codes "park"))) ∙ said.park;
-  lanes = ap all_lanes_of (sym (raw_values-rows found (codes "lanes"))) ∙ said.lanes;
-  record_at = sym (first_value-rows found (codes "record")) ∙ said.record_at;
-  record_all = flag_by found (codes "record-all") words.record_all said.record_all;
-  record_most = ap most_of (sym (first_value-rows found (codes "record-most"))) ∙ said.record_most;
-  strict_sources = flag_by found (codes "strict-sources") words.strict_sources said.strict_sources;
-  abandon_full = flag_by found (codes "abandon-full") words.abandon_full said.abandon_full;
-  log_level = ap level_of (sym (first_value-rows found (codes "log-level"))) ∙ said.log_level;
-  control_mode = ap mode_of (sym (first_value-rows found (codes "control-mode"))) ∙ said.control_mode;
-  outbox = sym (first_value-rows found (codes "outbox")) ∙ said.outbox;
-  log_commands = flag_by found (codes "log-commands") words.log_commands said.log_commands;
-  explain = flag_by found (codes "explain") words.explain said.explain;
-  by_source = flag_by found (codes "by-source") words.by_source said.by_source;
-  counters = flag_by found (codes "counters") words.counters said.counters;
+  check = sym (first_value-rows found (codes "check")) ∙ said.check;
+  station = sym (first_value-rows found (codes "station")) ∙ said.station;
 }
+
+server_in_rows : (found : Found) (words : ServerWords) → ServerSays (found_in found) words → ServerSays (in_rows (rows_of found)) words
+server_in_rows found (told.Station path) said =
+    (alone_in_rows found said.0, sym (first_value-rows found (codes "check")) ∙ said.1, sym (first_value-rows found (codes "station")) ∙ said.2)
+server_in_rows found (told.Check path) said =
+    (alone_in_rows found said.0, sym (first_value-rows found (codes "check")) ∙ said.1, sym (first_value-rows found (codes "station")) ∙ said.2)
+server_in_rows found (told.Entity its) said = entity_in_rows found its said
 
 put_in_rows : (found : Found) (words : PutWords) → PutSays (found_in found) words → PutSays (in_rows (rows_of found)) words
 put_in_rows found words said = record {

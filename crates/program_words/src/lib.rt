@@ -4,19 +4,14 @@
 mod checking;
 mod complaints;
 mod fault;
-mod lanes;
 mod line;
 mod options;
-mod parts;
 mod putting;
-mod rates;
 mod serving;
 
 pub use checking::{asks_for_check, asks_to_explain, check_words};
 pub use complaints::{push_check_complaint, push_put_complaint, push_server_complaint};
 pub use fault::WordsFault;
-pub use lanes::PeerLanes;
 pub use line::line_of;
 pub use putting::{PutWords, put_help, put_version, put_words};
-pub use rates::Rate;
-pub use serving::{ServerWords, server_help, server_version, server_words};
+pub use serving::{EntityWords, ServerWords, server_help, server_version, server_words};

@@ -96,7 +96,6 @@ put_plan core plan stands next is_left inds pdus timers nothing =
       };
       nothing = nothing;
       inside = λ i has. core.inside i (ap (λ l. remainder_of core.remaining l i) (sym is_left) ∙ has);
-      room = rw is_left tt;
       sound = λ runs. rw next (record {
         few = record { entries = omega arith; tries = record { ack = omega arith; nak = omega arith; check = omega arith; inactivity = omega arith } };
         goes_on = λ e. omega arith;

@@ -34,7 +34,7 @@ use Rattle.sender_core.proofs.ResponseData.{eof_short}
 use Rattle.txn_events.proofs.AnswerLemmas.{answer_of_parts, same_answer}
 use Rattle.txn_events.proofs.TimerLemmas.{armed_follows, counted}
 use Rattle.sender_core.specs.Remaining.{to_send}
-use Rattle.sender_core.specs.Core.{HasRoomFor, shown, sending_of, pdus_of_response, IsResponse, IsNext, HoldsResponse, IsPlanOf, effect_by, arming, remainder_of, remains_after, plan_answer}
+use Rattle.sender_core.specs.Core.{shown, sending_of, pdus_of_response, IsResponse, IsNext, HoldsResponse, IsPlanOf, effect_by, arming, remainder_of, remains_after, plan_answer}
 use Rattle.sender_core.specs.declared.plan.Remainder.{Remainder}
 use Rattle.sender_core.specs.declared.plan.Plan.{Plan}
 use Rattle.sender_core.specs.declared.response.Response as response_type
@@ -241,17 +241,15 @@ still_inside core event remainder is i has =
 pub is_plan : (core : SenderCore) (event : What) (response : response_type.Response) (remainder : Remainder) (plan : Plan) → refusal_of (sending_of core) (shown core) event ≡ None
     → IsResponse (sending_of core) response (response_to (sending_of core) (shown core) (shown core) (happens event)) → HoldsResponse core event response remainder plan
     → ((i : ℕ) → remainder_of core.remaining remainder i ≡ remains_after (sending_of core) (shown core) event i)
-    → HasRoomFor core.remaining remainder
     → extent_of (option_to_list response.pdu) ≤ length core.request.file → IsPlanOf core plan (happens event)
 unfolding answer_at
-is_plan core event response remainder plan taken is planned remains has_room inside = record {
+is_plan core event response remainder plan taken is planned remains inside = record {
   answered = record {
     accepted = rw taken (ap Ok (accepted_is core event response remainder plan is planned));
     follows = follows core event response remainder plan is planned remains;
   };
   nothing = planned.nothing;
   inside = λ i has. still_inside core event remainder remains i (ap (λ l. remainder_of core.remaining l i) (sym planned.remainder_is) ∙ has);
-  room = rw planned.remainder_is has_room;
   sound = sound_after core event response remainder plan taken is planned inside;
 }
 

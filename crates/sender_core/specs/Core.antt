@@ -19,7 +19,7 @@ use Rattle.pdu_values.specs.Pdu.{PduValue}
 use Rattle.sender_table.specs.Sending.{Sending, Event, happens, State, Entry, state_of, step, is_metadata, asks_for_metadata, requests_of, extent_of, eof_among, acknowledges_eof, tries_after, covers, asks_for}
 use Rattle.sender_table.specs.Answers.{answer_at, header_of}
 use Rattle.sender_table.specs.Answers as table
-use Rattle.sender_core.specs.Remaining.{to_send, with_nak, HasRoom}
+use Rattle.sender_core.specs.Remaining.{to_send}
 use Rattle.sender_core.specs.declared.remaining.Remaining.{Remaining}
 use Rattle.sender_core.specs.ControlBlock.{state_from, nowhere, IsSound, IsInside}
 use Rattle.txn_events.specs.declared.answer.Answer.{Answer}
@@ -54,12 +54,7 @@ plan_answer plan = plan.answer
 abbrev pub remainder_of : Remaining → Remainder → ℕ → Bool
 remainder_of remaining remainder.Same = to_send remaining
 remainder_of remaining (remainder.SentTo end) = without_range (to_send remaining) 0 end
-remainder_of remaining (remainder.Requested nak) = with_nak (to_send remaining) nak
-
--- there is room for what a plan adds
-abbrev pub HasRoomFor : Remaining → Remainder → Type 0
-HasRoomFor remaining (remainder.Requested nak) = HasRoom remaining nak
-HasRoomFor remaining _ = Unit {0}
+remainder_of remaining (remainder.Requested requested) = to_send requested
 
 -- the PDUs of a response of the state table
 abbrev pub pdus_of_response : Sending → table.Response → List PduValue
@@ -126,5 +121,4 @@ pub record IsPlanOf (core : SenderCore) (plan : Plan) (event : Event) : Type 0 w
       (state_from plan.next (remainder_of core.remaining plan.remainder))
   pub nothing : plan.answer.deposit ≡ None
   pub inside : IsInside (length core.request.file) (remainder_of core.remaining plan.remainder)
-  pub room : HasRoomFor core.remaining plan.remainder
   pub sound : core.control.ended ≡ false → IsSound (length core.request.file) plan.next

@@ -1,5 +1,5 @@
 use crate::control::ControlBlock;
-use crate::remaining::NakRequests;
+use crate::remaining::Remaining;
 use txn_events::Answer;
 
 /// What a plan does to the offsets that remain to be sent.
@@ -9,8 +9,8 @@ pub(crate) enum Remainder {
     Same,
     /// All below this offset are sent.
     SentTo(u32),
-    /// More are requested.
-    Requested(NakRequests),
+    /// More are requested: then these remain.
+    Requested(Remaining),
 }
 
 /// An accepted event, with its answer and all the memory that it needs. A plan can be carried out in the state that it

@@ -9,13 +9,12 @@ use txn_events::What;
 impl SenderCore {
     ghost use Rattle.std.specs.Prelude.{◌≡◌, ℕ, IfOk};
     ghost use Rattle.txn_events.specs.declared.event.What.TheVariants as what;
-    ghost use Rattle.sender_core.specs.Core.{shown, sending_of, remainder_of, remains_after, HasRoomFor};
+    ghost use Rattle.sender_core.specs.Core.{shown, sending_of, remainder_of, remains_after};
 
     // What remains once the next PDU is sent.
     fn remainder_by_pump(&self) -> Remainder
-        ensures after { (i : ℕ) → remainder_of self.now.remaining result i ≡ remains_after (sending_of self.now)
+        ensures { (i : ℕ) → remainder_of self.now.remaining result i ≡ remains_after (sending_of self.now)
             (shown self.now) what.Pump i }
-        ensures room { HasRoomFor self.now.remaining result }
     {
         if self.control.metadata_remains {
             return Remainder::Same;
@@ -28,9 +27,8 @@ impl SenderCore {
 
     /// What remains after an event that is accepted in the present state.
     pub(crate) fn remainder(&self, event: &What) -> Result<Remainder, AllocError>
-        ensures after { IfOk result (λ remainder. (i : ℕ) → remainder_of self.now.remaining remainder i ≡ remains_after
+        ensures { IfOk result (λ remainder. (i : ℕ) → remainder_of self.now.remaining remainder i ≡ remains_after
             (sending_of self.now) (shown self.now) event.now i) }
-        ensures room { IfOk result (λ remainder. HasRoomFor self.now.remaining remainder) }
     {
         if matches!(event, What::Pump) {
             return Ok(self.remainder_by_pump());
@@ -38,10 +36,10 @@ impl SenderCore {
         match requests_of(event) {
             None => Ok(Remainder::Same),
             Some(requests) => {
-                let nak = self
+                let requested = self
                     .remaining
-                    .nak_requests(self.alloc, requests, self.size())?;
-                Ok(Remainder::Requested(nak))
+                    .with_requests(self.alloc, requests, self.size())?;
+                Ok(Remainder::Requested(requested))
             }
         }
     }
@@ -49,16 +47,15 @@ impl SenderCore {
 
 ghost use Rattle.gap_list.specs.Runs.{SameSet};
 ghost use Rattle.sender_core.specs.Remaining.{to_send};
-ghost use Rattle.sender_core.specs.Core.{remainder_of, HasRoomFor};
+ghost use Rattle.sender_core.specs.Core.{remainder_of};
 
 /// Carries out what a plan does to the offsets that remain to be sent, without allocating.
 pub(crate) fn apply_remainder(remaining: &mut Remaining, remainder: Remainder)
-    requires { HasRoomFor remaining.old remainder }
     ensures { SameSet (to_send remaining.new) (remainder_of remaining.old remainder) }
 {
     match remainder {
         Remainder::Same => {}
         Remainder::SentTo(end) => remaining.send_to(end),
-        Remainder::Requested(nak) => remaining.add(nak),
+        Remainder::Requested(requested) => *remaining = requested,
     }
 }

@@ -1,7 +1,7 @@
-ghost use Rattle.std.specs.Prelude.{◌≡◌, ◌+◌, ◌≤◌, length};
-ghost use Rattle.gap_list.specs.Covered.{covered};
-ghost use Rattle.gap_list.specs.Runs.{SameSet};
-ghost use Rattle.sender_core.specs.Remaining.{with_requests};
+ghost use Rattle.std.specs.Prelude.{◌≡◌, ℕ, ◌&&◌, min, nat_lt, IfOk};
+ghost use Rattle.std.specs.List.{list_any};
+ghost use Rattle.gap_list.specs.Runs.{in_runs};
+ghost use Rattle.sender_table.specs.Sending.{asks_for};
 
 use gap_list::{Gaps, Run};
 use pdu_values::SegmentRequest;
@@ -15,18 +15,10 @@ pub(crate) struct Remaining {
     start: u32,
 }
 
-/// The offsets below a limit that a NAK requests, with room to add them.
-#[derive(Drop)]
-pub(crate) struct NakRequests {
-    requests: Vec<SegmentRequest>,
-    limit: u32,
-    spare: Option<Gaps>,
-}
-
 impl Remaining {
     ghost use Rattle.std.specs.Prelude.{◌≡◌, ℕ, IfOk, nat_lt};
     ghost use Rattle.gap_list.specs.Runs.{SameSet, without_range, first_run};
-    ghost use Rattle.sender_core.specs.Remaining.{to_send, with_requests, with_nak, HasRoom};
+    ghost use Rattle.sender_core.specs.Remaining.{to_send, with_requests};
 
     /// All offsets of a file of this size.
     pub(crate) fn whole(alloc: Global, size: u32) -> Result<Remaining, AllocError>
@@ -51,45 +43,47 @@ impl Remaining {
         self.start = self.start.max(end);
     }
 
-    /// The requested offsets below the limit, with room to add them.
-    pub(crate) fn nak_requests(
+    /// What remains with the requested offsets below the limit. It costs one pass over the runs and the requests,
+    /// in whatever order these are.
+    pub(crate) fn with_requests(
         &self,
         alloc: Global,
         requests: &[SegmentRequest],
         limit: u32,
-    ) -> Result<NakRequests, AllocError>
-        ensures added { IfOk result (λ nak. (i : ℕ) → with_nak (to_send self.now) nak i
+    ) -> Result<Remaining, AllocError>
+        ensures { IfOk result (λ remaining. (i : ℕ) → to_send remaining i
             ≡ with_requests (to_send self.now) requests.now limit i) }
-        ensures room { IfOk result (λ nak. HasRoom self.now nak) }
     {
-        Ok(NakRequests {
-            requests: Vec::from_slice(alloc, requests)?,
-            limit,
-            spare: self.offsets.spare(requests.len() + 1)?,
+        let ranges = rising_ranges(alloc, requests, limit)?;
+        Ok(Remaining {
+            offsets: self.offsets.merged(self.start, ranges.as_slice())?,
+            start: 0,
         })
-    }
-
-    /// Adds the requested offsets, without allocating.
-    pub(crate) fn add(&mut self, nak: NakRequests)
-        requires { HasRoom self.old nak }
-        ensures { SameSet (to_send self.new) (with_nak (to_send self.old) nak) }
-    {
-        self.offsets.move_to(nak.spare);
-        self.offsets.remove(0, self.start);
-        self.start = 0;
-        add_requests(&mut self.offsets, nak.requests.as_slice(), nak.limit);
     }
 }
 
-// Adds the requested offsets below the limit, without allocating.
-fn add_requests(offsets: &mut Gaps, requests: &[SegmentRequest], limit: u32)
-    requires { length requests.now ≤ offsets.old.room }
-    ensures { SameSet (covered offsets.new) (with_requests (covered offsets.old) requests.now limit) }
+// The requested offsets below the limit, as ranges that begin in rising order.
+fn rising_ranges(
+    alloc: Global,
+    requests: &[SegmentRequest],
+    limit: u32,
+) -> Result<Vec<Run>, AllocError>
+    ensures { IfOk result (λ ranges. (i : ℕ) → in_runs ranges.items i ≡ (nat_lt i limit && list_any (asks_for i) requests.now)) }
 {
+    let mut ranges = Vec::with_capacity(alloc, requests.len())?;
     for request in requests {
-        let end = request.end.min(u64::from(limit));
-        if request.start < end {
-            offsets.add(request.start as u32, end as u32);
-        }
+        ranges.push(range_below(*request, limit))?;
+    }
+    ranges.sort_by_key(|range| range.start)?;
+    Ok(ranges)
+}
+
+// The requested offsets below the limit.
+fn range_below(request: SegmentRequest, limit: u32) -> Run
+    ensures { result ≡ record { start = min request.start limit; end = min request.end limit } }
+{
+    Run {
+        start: request.start.min(u64::from(limit)) as u32,
+        end: request.end.min(u64::from(limit)) as u32,
     }
 }

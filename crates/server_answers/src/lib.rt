@@ -9,5 +9,5 @@ mod remarks;
 pub use answers::{
     push_bad_command, push_entity_refusal, push_no_memory, push_taken, push_too_large, push_traced,
 };
-pub use explaining::{push_cause, push_path_notes};
+pub use explaining::{push_cause, push_path_notes, push_station_fault};
 pub use remarks::push_remarks;

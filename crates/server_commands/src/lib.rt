@@ -2,21 +2,17 @@
 #![tactic(auto)]
 
 mod commands;
-mod counting;
-mod following;
-mod full;
 mod given;
-mod links;
-mod outbox;
-mod outbox_notes;
-mod outcome;
 mod recordings;
-mod showing;
-mod skipping;
+mod server;
+mod tuning;
 mod turns;
-mod unread;
 
-pub use commands::{Next, OutboxFolder, Server};
-pub use counting::counts_of;
-pub use following::Spell;
-pub use skipping::Opened;
+pub use commands::{Next, obey};
+pub use given::{report_command, unread_of, words_of};
+pub use recordings::record_ended;
+pub use server::Server;
+pub use server_kept::{Numbers, Outbox, OutboxFolder};
+pub use server_requests::{Opened, Settings, Working};
+pub use server_status::counts_of;
+pub use turns::{end, end_storing, rest, settle, turn};

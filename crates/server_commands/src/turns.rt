@@ -1,8 +1,13 @@
 //! A turn of the server, but for commands and what is printed.
-use crate::commands::Server;
+use crate::recordings::record_ended;
 use program_desk::moment;
-use program_station::REST_MS;
+use program_station::{REST_MS, Station};
+use program_status::StationCounts;
 use program_storing::StoredNote;
+use server_links::end_windows;
+use server_reports::Reports;
+use server_requests::Working;
+use shared_entity::Entity;
 use shared_lanes::Names;
 use std::rt::Files;
 use std::sync::Wait;
@@ -20,93 +25,126 @@ const LONGEST_SLEEP_MS: u64 = 60_000;
 // The same if events are reported: once a second it looks at refusals, and tries again to write a log that failed.
 const LONGEST_SLEEP_WITH_EVENTS_MS: u64 = 1_000;
 
-impl<'a, N: Names, R: Wait + Clock + Files + AllocGlobal + Copy + Drop> Server<'a, N, R> {
-    /// Notes the rest of the steps that were left at the desk. Returns whether there were any.
-    pub fn settle(&mut self) -> bool {
-        self.station.settle_left(self.desk, &mut self.steps)
-    }
+/// Notes the rest of the steps that were left at the desk. Returns whether there were any.
+pub fn settle<N: Names, R: Wait + Clock + Files + AllocGlobal + Copy + Drop>(
+    work: &mut Working<'_, '_, N, R>,
+) -> bool {
+    work.station.settle_left(work.shared.desk, work.steps)
+}
 
-    /// Goes on with files of the outbox, timers and PDUs of files, notes which files were stored, and lets events
-    /// leave. Returns whether there was any work.
-    pub fn turn(&mut self, now: u64) -> bool {
-        self.record_ended();
-        self.settle_counts();
-        self.end_windows(now);
-        let has_started = self.start_queued(now);
-        let has_noted = self.settle_outbox(now);
-        let has_worked = self.station.turn(now);
-        self.abandon_full();
-        let has_stored = self.report_stored();
-        self.audience.reports.end_turn(now);
-        has_started || has_noted || has_worked || has_stored
-    }
+/// Goes on with files of the outbox, timers and PDUs of files, notes which files were stored, and lets events
+/// leave. Returns whether there was any work.
+pub fn turn<N: Names, R: Wait + Clock + Files + AllocGlobal + Copy + Drop>(
+    work: &mut Working<'_, '_, N, R>,
+    now: u64,
+) -> bool {
+    record_ended(work);
+    settle_counts(work.rt, &mut work.audience.counts, work.station.entity());
+    let most = work.station.entity().config().remotes();
+    end_windows(
+        work.rt,
+        &mut work.station.timetable,
+        work.windows,
+        &mut work.audience.reports,
+        now,
+        most,
+    );
+    let has_started = work.start_queued(now);
+    let has_noted = work.outbox.settle(now);
+    let has_worked = work.station.turn(now);
+    work.abandon_full();
+    let has_stored = report_stored(work.station, &mut work.audience.reports);
+    work.audience.reports.end_turn(now);
+    has_started || has_noted || has_worked || has_stored
+}
 
-    /// Sleeps until something comes, or until there is work without that. If users' bundles wait for a client, sleeps
-    /// only for a short time.
-    pub fn rest(&self, now: u64, waits: bool) {
-        let longest = if waits {
-            REST_MS
-        } else if self.audience.reports.has_readers() {
-            LONGEST_SLEEP_WITH_EVENTS_MS
-        } else {
-            LONGEST_SLEEP_MS
+// Counts the transactions whose ends were received, if anything is counted.
+fn settle_counts<N: Names, R: Wait + Copy>(
+    rt: &R,
+    counts: &mut Option<StationCounts>,
+    entity: &Entity<N, R>,
+) {
+    if let Some(counts) = counts {
+        counts.settle(rt, entity);
+    }
+}
+
+/// Sleeps until something comes, or until there is work without that. If users' bundles wait for a client, sleeps
+/// only for a short time.
+pub fn rest<N: Names, R: Wait + Clock + Files + AllocGlobal + Copy + Drop>(
+    work: &Working<'_, '_, N, R>,
+    now: u64,
+    waits: bool,
+) {
+    let longest = longest_sleep(waits, work.audience.reports.has_readers());
+    let until = work.outbox.next_moment(work.station.next_moment(now));
+    let until = work.windows.next_moment(until);
+    work.shared
+        .desk
+        .wait(work.rt, now, until.min(now.saturating_add(longest)));
+}
+
+// How long the main thread sleeps at most, by whether users' bundles wait for a client, and whether events are
+// reported.
+fn longest_sleep(waits: bool, has_readers: bool) -> u64 {
+    if waits {
+        REST_MS
+    } else if has_readers {
+        LONGEST_SLEEP_WITH_EVENTS_MS
+    } else {
+        LONGEST_SLEEP_MS
+    }
+}
+
+/// Notes which files of the outbox have ended, reports the server's end, and leaves the file of numbers.
+pub fn end<N: Names, R: Wait + Clock + Files + AllocGlobal + Copy + Drop>(
+    work: &mut Working<'_, '_, N, R>,
+) {
+    record_ended(work);
+    let now = moment(work.rt);
+    work.outbox.begun.look_again(true);
+    work.note_ends(now);
+    work.outbox.settle_last();
+    work.audience.reports.end(now);
+    work.numbers.leave(work.rt);
+}
+
+// Reports what became of files that were stored since; returns whether there were any.
+fn report_stored<N: Names, R: Wait + Clock + Files + Copy>(
+    station: &mut Station<'_, N, R>,
+    reports: &mut Reports<'_, R>,
+) -> bool {
+    let mut has_stored = false;
+    for _ in 0..STORED {
+        let Some(
+            StoredNote {
+                key,
+                is_kept,
+                place,
+            },
+        ) = station.take_stored()
+        else {
+            break;
         };
-        let until = self.outgoing.next_moment(self.station.next_moment(now));
-        let until = self.windows.next_moment(until);
-        let until = match &self.held {
-            Some(held) => held.next_moment(until),
-            None => until,
-        };
-        self.desk
-            .wait(self.rt, now, until.min(now.saturating_add(longest)));
-    }
-
-    /// Notes which files of the outbox have ended, reports the server's end, and leaves the file of numbers.
-    pub fn end(&mut self) {
-        self.record_ended();
-        let now = moment(self.rt);
-        self.begun.look_again(true);
-        self.note_ends(now);
-        self.settle_last();
-        self.audience.reports.end(now);
-        if let Some(numbers) = &self.numbers {
-            numbers.leave(self.rt);
+        has_stored = true;
+        match place {
+            Some(place) => reports.store(key, is_kept, Some(place.as_str())),
+            None => reports.store(key, is_kept, None),
         }
     }
+    has_stored
+}
 
-    // Reports what became of files that were stored since; returns whether there were any.
-    fn report_stored(&mut self) -> bool {
-        let mut has_stored = false;
-        for _ in 0..STORED {
-            let Some(
-                StoredNote {
-                    key,
-                    is_kept,
-                    place,
-                },
-            ) = self.station.take_stored()
-            else {
-                break;
-            };
-            has_stored = true;
-            let reports = &mut self.audience.reports;
-            match place {
-                Some(place) => reports.store(key, is_kept, Some(place.as_str())),
-                None => reports.store(key, is_kept, None),
-            }
-        }
-        has_stored
-    }
-
-    /// Lets the file being stored come to its end, for some seconds at most, and notes what became of it.
-    pub fn end_storing(&mut self) {
-        let rt = self.rt;
-        self.depot.close(rt);
-        let _has_ended = self.depot.wait_end(rt, LAST_STORE_MS);
-        for _ in rt.forever() {
-            if !self.report_stored() {
-                break;
-            }
+/// Lets the file being stored come to its end, for some seconds at most, and notes what became of it.
+pub fn end_storing<N: Names, R: Wait + Clock + Files + AllocGlobal + Copy + Drop>(
+    work: &mut Working<'_, '_, N, R>,
+) {
+    let (rt, depot) = (work.rt, work.shared.depot);
+    depot.close(rt);
+    let _has_ended = depot.wait_end(rt, LAST_STORE_MS);
+    for _ in rt.forever() {
+        if !report_stored(work.station, &mut work.audience.reports) {
+            break;
         }
     }
 }

@@ -3,7 +3,7 @@ use crate::readiness::lanes_toward;
 use entity_config::Config;
 use program_lineup::{better_counts, is_shared};
 use program_status::LaneHint;
-use program_words::PeerLanes;
+use station_config::PeerLanes;
 use std::alloc::{AllocError, Global};
 
 /// The remote entities whose receiving lanes the sending lanes of this one don't divide. `peers` says how many

@@ -6,9 +6,9 @@ use lane_table::{Glance, Numbers};
 use program_lineup::{Choice, Lineup, Running, SendingLane};
 use program_outbox::{Outgoing, Stop, Waiting};
 use program_tallies::Links;
-use program_words::PeerLanes;
 use shared_entity::Entity;
 use shared_lanes::Names;
+use station_config::PeerLanes;
 use std::alloc::{AllocError, Global};
 use std::sync::Wait;
 

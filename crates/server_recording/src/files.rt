@@ -6,9 +6,9 @@ use program_desk::Desk;
 use program_recorder::{Keeper, Recording};
 use program_start::RuntimeFiles;
 use program_storing::{Depot, StationFiles, Storer, run_storer};
-use program_words::ServerWords;
 use shared_entity::Entity;
 use shared_lanes::Names;
+use station_config::StoreSettings;
 use station_store::{Clash, Layout, SourceStore, StationStore};
 use std::alloc::Global;
 use std::io;
@@ -33,8 +33,9 @@ pub struct FolderStoring<'x, N: Names, R: Copy> {
     pub entity: &'x Entity<N, R>,
     pub desk: &'x Desk,
     pub depot: &'x Depot,
-    pub words: &'x ServerWords<'x>,
+    /// The path of the folder, as the station's file says it.
     pub folder: String,
+    pub settings: &'x StoreSettings,
 }
 
 impl<Q: Files + AllocGlobal + Copy + Drop> ServerFiles for RuntimeFiles<Q> {
@@ -45,17 +46,17 @@ impl<Q: Files + AllocGlobal + Copy + Drop> ServerFiles for RuntimeFiles<Q> {
             entity,
             desk,
             depot,
-            words,
             folder,
+            settings,
         } = storing;
         let disk = SystemDisk::new(*self.runtime(), folder);
-        let (layout, clash) = (layout_of(words), clash_of(words));
-        if words.by_source {
+        let (layout, clash) = (layout_of(settings), clash_of(settings));
+        if settings.by_source {
             let store = SourceStore::new(disk, alloc, layout, clash);
-            run_with(Storer::new(rt, alloc, entity, desk, depot, store), words);
+            run_with(Storer::new(rt, alloc, entity, desk, depot, store), settings);
         } else {
             let store = StationStore::new(disk, alloc, layout, clash);
-            run_with(Storer::new(rt, alloc, entity, desk, depot, store), words);
+            run_with(Storer::new(rt, alloc, entity, desk, depot, store), settings);
         }
     }
 
@@ -64,21 +65,21 @@ impl<Q: Files + AllocGlobal + Copy + Drop> ServerFiles for RuntimeFiles<Q> {
     }
 }
 
-// Stores received files as the words say.
+// Stores received files as the settings say.
 fn run_with<N: Names, R: Wait + Clock + Copy, S: Filestore + StationFiles + Drop>(
     mut storer: Storer<'_, N, R, S>,
-    words: &ServerWords<'_>,
+    settings: &StoreSettings,
 ) {
-    storer.try_for(words.retry.unwrap_or(0).saturating_mul(1_000));
-    if words.tree || words.keep || words.by_source {
+    storer.try_for(settings.retry_s.saturating_mul(1_000));
+    if settings.tree || settings.keeps || settings.by_source {
         storer.show_places();
     }
     run_storer(storer);
 }
 
 // Whether files lie in folders below the store's.
-fn layout_of(words: &ServerWords<'_>) -> Layout {
-    if words.tree {
+fn layout_of(settings: &StoreSettings) -> Layout {
+    if settings.tree {
         Layout::Tree
     } else {
         Layout::Flat
@@ -86,8 +87,8 @@ fn layout_of(words: &ServerWords<'_>) -> Layout {
 }
 
 // What becomes of an existing file that has a received file's name.
-fn clash_of(words: &ServerWords<'_>) -> Clash {
-    if words.keep {
+fn clash_of(settings: &StoreSettings) -> Clash {
+    if settings.keeps {
         Clash::Keep
     } else {
         Clash::Replace

@@ -1,28 +1,27 @@
 //! The thread that records transactions beside the main thread, as they are left for it.
 use crate::files::ServerFiles;
 use crate::recording::{Book, Found, Job, NO_SCRIPT, PATIENCE_MS, Reader, count};
-use cfdp_types::{EntityId, Octets, TxnKey};
-use entity_config::{Config, read_config};
+use cfdp_types::{EntityId, TxnKey};
+use entity_config::Config;
 use journal_recording::ScriptFault;
 use program_desk::{Desk, moment};
 use program_recorder::{Facts, Keeper, Recording, first_of, piece_length, recording_of};
 use program_seats::{Asker, Seats};
-use program_start::{ProgramFault, load_file};
-use program_words::ServerWords;
 use release::versioned;
 use server_answers::push_no_memory;
-use std::alloc::Global;
-use std::rt::Files;
-use std::str;
+use station_config::{RecordSettings, read_entity};
+use std::alloc::{AllocError, Global};
 use std::sync::Wait;
 use std::time::Clock;
 use txn_events::Event;
 
-/// What a recorder works with: its entity's configuration, the book in which it finds what to record, and the desk and
-/// the seats that it delivers to.
+/// What a recorder works with: its entity's configuration, the text that has it, the book in which it finds what to
+/// record, and the desk and the seats that it delivers to.
 #[derive(Clone, Copy)]
 pub struct Ties<'x> {
     pub config: &'x Config,
+    /// The text of the file that the configuration was read from.
+    pub text: &'x str,
     pub book: &'x Book,
     pub desk: &'x Desk,
     pub seats: Option<&'x Seats>,
@@ -35,8 +34,7 @@ pub struct Recorder<'x, R, F> {
     alloc: Global,
     files: &'x F,
     config: &'x Config,
-    /// The text of the configuration's file, if that is a plain file.
-    text: Option<Octets>,
+    text: &'x str,
     book: &'x Book,
     desk: &'x Desk,
     seats: Option<&'x Seats>,
@@ -62,30 +60,19 @@ enum Way {
     Over,
 }
 
-impl<'x, R: Files, F> Recorder<'x, R, F> {
-    /// A recorder for an entity with the configuration whose file the words name; it reads that file.
+impl<'x, R, F> Recorder<'x, R, F> {
+    /// A recorder that has nothing to do so far, and keeps scripts as the settings say.
     pub fn new(
         rt: &'x R,
         alloc: Global,
         files: &'x F,
-        words: &ServerWords<'_>,
+        settings: &RecordSettings,
         ties: Ties<'x>,
-    ) -> Result<Recorder<'x, R, F>, ProgramFault> {
-        let Ties {
-            config,
-            book,
-            desk,
-            seats,
-        } = ties;
-        let text = match load_file(rt, alloc, words.config) {
-            Ok(text) => Some(text),
-            Err(fault) if words.record.is_some() => return Err(fault),
-            Err(_) => None,
-        };
-        let keeper = match words.record {
+    ) -> Result<Recorder<'x, R, F>, AllocError> {
+        let keeper = match &settings.folder {
             Some(folder) => Some(Keeper::new(
-                String::from_str(alloc, folder)?,
-                usize::try_from(words.record_most).unwrap_or(usize::MAX),
+                String::from_str(alloc, folder.as_str())?,
+                usize::try_from(settings.most).unwrap_or(usize::MAX),
             )),
             None => None,
         };
@@ -93,11 +80,11 @@ impl<'x, R: Files, F> Recorder<'x, R, F> {
             rt,
             alloc,
             files,
-            config,
-            text,
-            book,
-            desk,
-            seats,
+            config: ties.config,
+            text: ties.text,
+            book: ties.book,
+            desk: ties.desk,
+            seats: ties.seats,
             keeper,
             deliveries: Vec::new(alloc),
         })
@@ -135,13 +122,7 @@ impl<'x, R: Wait + Clock, F: ServerFiles> Recorder<'x, R, F> {
 
     // The recording of a transaction.
     fn recording(&self, job: &Job) -> Result<Recording, ScriptFault> {
-        let Some(text) = &self.text else {
-            return Err(ScriptFault::NotPlayed);
-        };
-        let Ok(text) = str::from_utf8(text.as_slice()) else {
-            return Err(ScriptFault::NotPlayed);
-        };
-        let Ok(config) = read_config(self.alloc, text) else {
+        let Ok(config) = read_entity(self.alloc, self.text) else {
             return Err(ScriptFault::NoMemory);
         };
         let user = self.config.name_of(job.place.user).unwrap_or("");

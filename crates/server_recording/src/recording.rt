@@ -1,14 +1,18 @@
 //! Which transactions are recorded: those that failed, or all of them, in a folder, and any one for whoever asks.
+ghost use Rattle.std.specs.Prelude.{◌≡◌};
+ghost use Rattle.server_recording.specs.Waiting.{has_room, is_over};
+
 use cfdp_types::{Delivery as Delivered, FileStatus, TxnKey};
 use entity_config::Config;
 use entity_routing::{Place, place_of_key};
 use indications::{Bundle, Indication};
+use pdu_values::Body;
 use program_desk::moment;
 use program_recorder::{Recording, Seen, Sightings, piece_length};
 use program_seats::Asker;
-use program_words::ServerWords;
 use shared_entity::Entity;
 use shared_lanes::Names;
+use station_config::RecordSettings;
 use station_lines::Moment;
 use station_names::kind::RECORDER;
 use station_names::member::{FAILED, KEPT, KIND, MISSED};
@@ -18,10 +22,19 @@ use std::mem;
 use std::sync::atomic::{AtomicU64, Ordering};
 use std::sync::{Condvar, CondvarTimeouts, Mutex, Wait};
 use std::time::{Clock, Duration};
-use txn_events::Event;
+use txn_events::{Event, What};
 
-// How many transactions may wait to be recorded.
+// How many transactions may wait to be recorded, and how many octets their events may take up: somewhat more than those
+// of two of the largest files. One may always wait.
 const WAITING: usize = 256;
+
+const WAITING_OCTETS: u64 = 48 * 1_024 * 1_024;
+
+// How many octets an event takes up beside those of its file.
+const EVENT_OCTETS: u64 = 120;
+
+// For how long at the end transactions that wait are still recorded, in milliseconds.
+const END_MS: u64 = 2_000;
 
 // How long to wait before a client's text is looked at again, in milliseconds, and how long a client may take no text
 // at all.
@@ -49,16 +62,21 @@ pub(crate) struct Job {
     pub(crate) place: Place,
     pub(crate) seen: Seen,
     pub(crate) journal: Vec<Event>,
+    /// How many octets the journal takes up.
+    pub(crate) octets: u64,
 }
 
 /// What waits between the threads.
 #[derive(Drop)]
 struct Tray {
     jobs: VecDeque<Job>,
+    /// How many octets the journals of those that wait take up.
+    octets: u64,
     /// What is to be printed, once it is made, and the number of the wanted recording.
     printed: Option<Printed>,
     wanted: u64,
-    is_closed: bool,
+    /// Up to which moment by the runtime's clock those that wait are still recorded, once the book is closed.
+    until: Option<u64>,
 }
 
 // A recording that is printed, or the line in its place; and how much of its script was printed.
@@ -82,18 +100,19 @@ pub struct Book {
 }
 
 impl Book {
-    /// Nothing is to be recorded so far; the words say which transactions are.
-    pub fn new(alloc: Global, words: &ServerWords<'_>) -> Result<Book, AllocError> {
+    /// Nothing is to be recorded so far; the settings say which transactions are.
+    pub fn new(alloc: Global, settings: &RecordSettings) -> Result<Book, AllocError> {
         Ok(Book {
             tray: Mutex::new(Tray {
                 jobs: VecDeque::with_capacity(alloc, WAITING)?,
+                octets: 0,
                 printed: None,
                 wanted: 0,
-                is_closed: false,
+                until: None,
             }),
             came: Condvar::new(),
-            records: words.record.is_some(),
-            records_all: words.record_all,
+            records: settings.folder.is_some(),
+            records_all: settings.all,
             kept: AtomicU64::new(0),
             missed: AtomicU64::new(0),
             failed: AtomicU64::new(0),
@@ -113,7 +132,11 @@ impl Book {
     // Leaves a transaction to be recorded, unless too many wait. Returns whether it did.
     fn leave<R: Wait>(&self, rt: &R, job: Job) -> bool {
         let mut tray = self.tray.lock(rt);
-        let is_left = tray.jobs.len() < WAITING && tray.jobs.push_back(job).is_ok();
+        let octets = tray.octets.saturating_add(job.octets);
+        let is_left = has_room(tray.jobs.len(), octets) && tray.jobs.push_back(job).is_ok();
+        if is_left {
+            tray.octets = octets;
+        }
         drop(tray);
         self.came.notify_one();
         is_left
@@ -123,10 +146,17 @@ impl Book {
     pub(crate) fn next<R: Wait + Clock>(&self, rt: &R, is_busy: bool) -> Found {
         let mut tray = self.tray.lock(rt);
         for _ in rt.forever() {
+            if is_over(tray.until, moment(rt)) {
+                let _missed = self
+                    .missed
+                    .fetch_add(tray.jobs.len() as u64, Ordering::Relaxed);
+                return Found::End;
+            }
             if let Some(job) = tray.jobs.pop_front() {
+                tray.octets = tray.octets.saturating_sub(job.octets);
                 return Found::Job(job);
             }
-            if tray.is_closed {
+            if tray.until.is_some() {
                 return Found::End;
             }
             if is_busy {
@@ -139,9 +169,9 @@ impl Book {
         Found::End
     }
 
-    /// Closes the book: only what already waits is still recorded.
-    pub fn close<R: Wait>(&self, rt: &R) {
-        self.tray.lock(rt).is_closed = true;
+    /// Closes the book: only what already waits is still recorded, and for two seconds at most.
+    pub fn close<R: Wait + Clock>(&self, rt: &R) {
+        self.tray.lock(rt).until = Some(moment(rt).saturating_add(END_MS));
         self.came.notify_all();
     }
 
@@ -196,6 +226,36 @@ impl Book {
             "{{\"{KIND}\":\"{RECORDER}\",\"{KEPT}\":{kept},\"{MISSED}\":{missed},\"{FAILED}\":{failed}}}"
         )
     }
+}
+
+// Whether one more transaction may wait, with which there are so many octets.
+fn has_room(waiting: usize, octets: u64) -> bool
+    ensures { result ≡ has_room waiting octets }
+{
+    waiting == 0 || (waiting < WAITING && octets <= WAITING_OCTETS)
+}
+
+// Whether the moment up to which transactions are recorded has passed.
+fn is_over(until: Option<u64>, now: u64) -> bool
+    ensures { result ≡ is_over until now }
+{
+    match until {
+        Some(until) => until <= now,
+        None => false,
+    }
+}
+
+// How many octets an event takes up.
+fn octets_of(event: &Event) -> u64 {
+    let file = match event {
+        Event::Put(request, _) => request.file().as_slice().len(),
+        Event::On(_, What::Pdu(pdu)) => match pdu.body() {
+            Body::FileData(part) => part.octets.as_slice().len(),
+            _ => 0,
+        },
+        Event::On(..) => 0,
+    };
+    (file as u64).saturating_add(EVENT_OCTETS)
 }
 
 /// Counts one more.
@@ -331,12 +391,16 @@ impl<'a> Watched<'a> {
         let Ok(journal) = entity.journal(rt, key) else {
             return false;
         };
+        let octets = journal
+            .iter()
+            .fold(0u64, |sum, event| sum.saturating_add(octets_of(event)));
         let job = Job {
             reader,
             key,
             place,
             seen,
             journal,
+            octets,
         };
         self.book.leave(rt, job)
     }

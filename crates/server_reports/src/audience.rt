@@ -21,6 +21,8 @@ pub struct Audience<'a, R: Files> {
     alloc: Global,
     config: &'a Config,
     ports: Vec<UserPort>,
+    /// The user whose bundle is taken next.
+    next: usize,
     /// Whether each user's indications are printed as they are issued.
     follows: bool,
     pub reports: Reports<'a, R>,
@@ -44,6 +46,7 @@ impl<'a, R: Wait + Clock + Files> Audience<'a, R> {
             alloc,
             config: reports.config,
             ports,
+            next: 0,
             follows,
             reports,
             watched,
@@ -72,11 +75,18 @@ impl<'a, R: Wait + Clock + Files> Audience<'a, R> {
         }
     }
 
-    /// Takes and reports at most one bundle of each user, and prints it if that is wanted. Returns whether there was
-    /// one.
-    pub fn receive_each(&mut self, text: &mut String) -> Result<bool, AllocError> {
+    /// Takes and reports at most one bundle of each user in turn, until so many octets were reported or printed in this
+    /// turn of the main thread, and prints it if that is wanted. Returns whether there was one.
+    pub fn receive_each(&mut self, text: &mut String, most: usize) -> Result<bool, AllocError> {
         let mut has_received = false;
-        for user in 0..self.config.users() {
+        let users = self.config.users();
+        for _ in 0..users {
+            if text.len().max(self.reports.octets()) >= most {
+                break;
+            }
+            let user = self.next;
+            let after = user.saturating_add(1);
+            self.next = if after < users { after } else { 0 };
             if let Some(bundle) = self.receive(user) {
                 has_received = true;
                 if self.follows {

@@ -253,7 +253,8 @@ impl<'a, R: Wait + Clock + Files> Reports<'a, R> {
     pub fn receive(&mut self, bundle: &Bundle) -> Moment {
         let at = self.now_of_turn();
         self.notes.note(bundle, at);
-        let name = self.config.name_of(bundle.user).unwrap_or("");
+        let config = self.config;
+        let name = config.name_of(bundle.user).unwrap_or("");
         if let Some(events) = &mut self.events {
             events.receive(self.rt, at, name, bundle);
         }

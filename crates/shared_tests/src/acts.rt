@@ -2,7 +2,7 @@
 
 use crate::said::{Said, told};
 use crate::watch::{TURNS, Watch, pause};
-use cfdp_types::{Class, EntityId, PutRequest, TimerKind, TxnKey};
+use cfdp_types::{Class, EntityId, PutRequest, TxnKey};
 use entity_routing::{Place, Request};
 use shared_entity::Entity;
 use shared_lanes::Names;
@@ -17,18 +17,11 @@ pub(crate) const LOCAL: u8 = 2;
 pub(crate) enum Act {
     /// A user puts the file `abc` from a lane, for an entity.
     Put(Place, u8),
-    Cancel(usize, u8, u8),
-    Suspend(usize, u8, u8),
-    Resume(usize, u8, u8),
-    Report(usize, u8, u8),
     /// The Metadata and the EOF of an empty file in class 1.
     Metadata(u8, u8),
     Eof(u8, u8),
-    Deliver(&'static [u8]),
     Pump(u8, u8),
     Stored(u8, u8, u32),
-    /// Its inactivity timer expires.
-    Timer(u8, u8, u32),
 }
 
 /// The transaction ID of a source and a number.
@@ -63,43 +56,13 @@ pub(crate) fn tell<N: Names, R: Wait + Copy>(
 ) -> Said {
     match act {
         Act::Put(place, to) => put(rt, alloc, entity, gate, place, to),
-        Act::Cancel(user, source, seq) => {
-            ask(rt, entity, gate, user, Request::Cancel(key(source, seq)))
-        }
-        Act::Suspend(user, source, seq) => {
-            ask(rt, entity, gate, user, Request::Suspend(key(source, seq)))
-        }
-        Act::Resume(user, source, seq) => {
-            ask(rt, entity, gate, user, Request::Resume(key(source, seq)))
-        }
-        Act::Report(user, source, seq) => {
-            ask(rt, entity, gate, user, Request::Report(key(source, seq)))
-        }
         Act::Metadata(source, seq) => deliver(rt, entity, gate, &metadata(source, seq)),
         Act::Eof(source, seq) => deliver(rt, entity, gate, &eof(source, seq)),
-        Act::Deliver(octets) => deliver(rt, entity, gate, octets),
         Act::Pump(source, seq) => told(entity.pump(rt, gate, key(source, seq))),
         Act::Stored(source, seq, stamp) => {
             told(entity.stored(rt, gate, key(source, seq), stamp, true))
         }
-        Act::Timer(source, seq, stamp) => {
-            told(entity.timer(rt, gate, key(source, seq), TimerKind::Inactivity, stamp))
-        }
     }
-}
-
-// Makes a user's request other than a Put.
-fn ask<N: Names, R: Wait + Copy>(
-    rt: &R,
-    entity: &Entity<N, R>,
-    gate: &Watch<R>,
-    user: usize,
-    request: Request,
-) -> Said {
-    if !entity.may_request(user, &request) {
-        return NOT_ASKED;
-    }
-    told(entity.request(rt, gate, user, request))
 }
 
 fn deliver<N: Names, R: Wait + Copy>(

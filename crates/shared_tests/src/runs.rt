@@ -2,9 +2,8 @@
 ghost use Rattle.std.specs.Prelude.{◌≡◌, All};
 ghost use Rattle.shared_entity.specs.Opening.{AreQueuesFor};
 
-use crate::steps::{Step, Steps};
 use crate::workers::Shift;
-use crate::{apart, closing, crowd, steps, workers};
+use crate::{apart, closing, crowd, workers};
 use entity_config::{Config, read_config};
 use shared_entity::{Entity, queues_of};
 use shared_lanes::Names;
@@ -18,8 +17,6 @@ use user_queues::{Queues, UserPort};
 /// The kinds of runs.
 #[derive(Clone, Copy)]
 pub(crate) enum Run {
-    /// Steps in order, with a store whose call with this number fails.
-    Steps(u64, &'static [Step]),
     /// Two threads deliver, and then the entity is closed.
     Closing,
     /// A lane is held back while others work.
@@ -99,10 +96,6 @@ fn play_all<N: Names + Send + Sync, R: Threads + Wait + Copy + Send + Sync>(
     run: Run,
 ) -> Result<(), AllocError> {
     match run {
-        Run::Steps(fails_at, steps) => {
-            let taken = Steps { fails_at, steps };
-            steps::take_steps(rt, alloc, text, entity, ports, taken)
-        }
         Run::Closing => Ok(()),
         Run::Apart => apart::hold_back(rt, alloc, text, entity),
         Run::Crowd => crowd::crowd(rt, alloc, text, entity, ports),

@@ -4,12 +4,11 @@ ghost use Rattle.std.specs.Prelude.{◌≡◌};
 use crate::heard::Heard;
 use crate::runs::{Run, play};
 use crate::said::{Said, push_line, told};
-use crate::steps::{EOF, FILE_DATA, METADATA};
-use crate::store::push_files;
 use crate::watch::Watch;
 use cfdp_types::Deposit;
 use entity_workers::{
-    Carrier, Filestore, Intake, IntakeFault, IntakeSend, MemoryStore, deposit_one, run_workers,
+    Carrier, Filestore, Intake, IntakeFault, IntakeSend, MemoryStore, StoredFile, deposit_one,
+    run_workers,
 };
 use shared_entity::{Entity, EntityRefusal};
 use shared_lanes::{Names, Point};
@@ -151,6 +150,22 @@ fn push_stored<N: Names, R: Wait + Copy>(
     push_files(text, store.files())
 }
 
+// Adds a line for the files of a store: how many there are, how many of these have the name `b` and the content `abc`,
+// and how many the name `b` and no content.
+fn push_files(text: &mut String, files: &[StoredFile]) -> Result<(), AllocError> {
+    let (mut full, mut empty) = (0u64, 0u64);
+    for file in files {
+        full = full.saturating_add(is_file(file, b"abc"));
+        empty = empty.saturating_add(is_file(file, b""));
+    }
+    push_line(text, "files", &[files.len() as u64, full, empty])
+}
+
+// One if a file has the name `b` and this content, else zero.
+fn is_file(file: &StoredFile, octets: &[u8]) -> u64 {
+    u64::from(file.name.as_slice() == b"b".as_slice() && file.octets.as_slice() == octets)
+}
+
 fn push_heard<R: Wait>(rt: &R, text: &mut String, port: UserPort) -> Result<(), AllocError> {
     let mut port = port;
     let mut heard = Heard::new(port.user());
@@ -170,6 +185,13 @@ fn number_of(sent: Result<(), IntakeFault>) -> u8 {
         Err(fault) => fault.number(),
     }
 }
+
+// The file `abc` from entity 1 with number 5, in class 1: its Metadata, its File Data and its EOF.
+const METADATA: &[u8] = b"\x24\x00\x0a\x00\x01\x05\x02\x07\x00\x00\x00\x00\x03\x01a\x01b";
+
+const FILE_DATA: &[u8] = b"\x34\x00\x07\x00\x01\x05\x02\x00\x00\x00\x00abc";
+
+const EOF: &[u8] = b"\x24\x00\x0a\x00\x01\x05\x02\x04\x00abc\x00\x00\x00\x00\x03";
 
 #[test]
 fn not_taken(rt: HostRuntime) -> Result<(), Fail> {

@@ -1,6 +1,6 @@
 //! The reply of one command, and the events that came with it.
-ghost use Rattle.std.specs.Prelude.{◌≡◌, ◌≤◌, [], drop, length, option_map, slice_get, OnOk, OnErr};
-ghost use Rattle.station_client.specs.Exchanges.{with_line};
+ghost use Rattle.std.specs.Prelude.{◌≡◌, ◌≤◌, [], drop, length, option_map, slice_get, true, OnOk, OnErr};
+ghost use Rattle.station_client.specs.Exchanges.{has_room, with_line};
 
 use crate::fault::StationFault;
 use crate::lines::LineKind;
@@ -11,6 +11,9 @@ use std::mem;
 
 /// The most octets of a reply.
 pub const ANSWER_OCTETS: usize = 256 * 1024 * 1024;
+
+/// The most events that are kept until somebody takes them.
+pub const KEPT_EVENTS: usize = 65_536;
 
 // How many octets the word `event` and its space have.
 const EVENT_WORD_OCTETS: usize = 6;
@@ -45,6 +48,7 @@ impl Exchange {
     /// Adds a line of this kind.
     pub fn add(&mut self, alloc: Global, kind: LineKind, line: &[u8]) -> Result<(), StationFault>
         ensures ok { OnOk result (self.new ≡ with_line kind line.now self.old) }
+        ensures room { OnOk result (has_room kind self.old ≡ true) }
         ensures err { OnErr result (self.new ≡ self.old) }
     {
         match kind {
@@ -71,8 +75,12 @@ impl Exchange {
     // Adds an event.
     fn add_event(&mut self, alloc: Global, line: &[u8]) -> Result<(), StationFault>
         ensures ok { OnOk result (self.new ≡ with_line LineKind.Event line.now self.old) }
+        ensures room { OnOk result (has_room LineKind.Event self.old ≡ true) }
         ensures err { OnErr result (self.new ≡ self.old) }
     {
+        if self.events.len() >= KEPT_EVENTS {
+            return Err(StationFault::TooManyEvents);
+        }
         let text = line.get(EVENT_WORD_OCTETS..).unwrap_or(b"".as_slice());
         let kept = Vec::from_slice(alloc, text)?;
         if self.events.push_back(kept).is_err() {

@@ -17,6 +17,8 @@ pub enum StationFault {
     TimedOut,
     /// A line or a reply was longer than a station sends.
     TooLong,
+    /// More events came before a reply than are kept.
+    TooManyEvents,
     /// The command has a line feed inside.
     BadCommand,
     /// Memory ran out.
@@ -36,6 +38,7 @@ impl StationFault {
             StationFault::Gone => "the server went away",
             StationFault::TimedOut => "the server didn't answer in time",
             StationFault::TooLong => "the server's answer is too long",
+            StationFault::TooManyEvents => "the server sent too many events before its answer",
             StationFault::BadCommand => "a command must be one line",
             StationFault::NoMemory => "no memory",
             StationFault::System => "a system call failed",

@@ -7,7 +7,7 @@ mod fault;
 mod lines;
 mod station;
 
-pub use exchange::{ANSWER_OCTETS, Exchange};
+pub use exchange::{ANSWER_OCTETS, Exchange, KEPT_EVENTS};
 pub use fault::StationFault;
 pub use lines::{Incoming, LINE_OCTETS, LineKind, kind_of};
 pub use station::Station;

@@ -99,6 +99,21 @@ impl Station {
         self.keep_fault(answered)
     }
 
+    /// Like `ask`, but the time limit is one of silence: it begins anew with each line that comes.
+    pub fn ask_unless_silent<R: Clock + Wait>(
+        &mut self,
+        rt: &R,
+        command: &[u8],
+        silence: Duration,
+    ) -> Result<Vec<u8>, StationFault> {
+        self.check()?;
+        if command.contains(&b'\n') {
+            return Err(StationFault::BadCommand);
+        }
+        let answered = self.exchange_lines(rt, command, silence);
+        self.keep_fault(answered)
+    }
+
     /// The JSON of the next event, without the word `event`; `None` if none comes within the time limit. The station
     /// sends events once it was asked to `follow`.
     pub fn next_event<R: Clock + Wait>(
@@ -143,6 +158,23 @@ impl Station {
         let until = moment_behind(rt, limit)?;
         self.send(command, limit)?;
         for _ in rt.forever() {
+            if self.read_line(rt, until)? == LineKind::End {
+                break;
+            }
+        }
+        Ok(self.exchange.take_answer(self.alloc))
+    }
+
+    // Sends a command and reads until the end of its reply, however long lines come.
+    fn exchange_lines<R: Clock + Wait>(
+        &mut self,
+        rt: &R,
+        command: &[u8],
+        silence: Duration,
+    ) -> Result<Vec<u8>, StationFault> {
+        self.send(command, silence)?;
+        for _ in rt.forever() {
+            let until = moment_behind(rt, silence)?;
             if self.read_line(rt, until)? == LineKind::End {
                 break;
             }

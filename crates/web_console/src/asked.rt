@@ -17,7 +17,9 @@ const JOURNAL_MILLIS: u64 = 120_000;
 #[derive(Clone, Copy, Debug)]
 pub enum Asked<'a> {
     Status,
-    /// The events as they come, first those that the station has kept.
+    /// The events that the station has kept, without pieces of files, and then those that come.
+    Kept,
+    /// All events that come, first those that the station has kept, each with its level.
     Events,
     /// A command that came with the token.
     Passed(Permit<'a>),
@@ -30,7 +32,8 @@ impl<'a> Asked<'a> {
     {
         match self {
             Asked::Status => b"status",
-            Asked::Events => b"follow 1024",
+            Asked::Kept => b"follow 1024 info",
+            Asked::Events => b"follow 1024 detail",
             Asked::Passed(permit) => permit.line,
         }
     }
@@ -38,7 +41,7 @@ impl<'a> Asked<'a> {
     /// How many milliseconds the station may take to let the console in and to reply.
     pub(crate) fn millis(self) -> u64 {
         match self {
-            Asked::Status | Asked::Events => ANSWER_MILLIS,
+            Asked::Status | Asked::Kept | Asked::Events => ANSWER_MILLIS,
             Asked::Passed(permit) if permit.line.starts_with(b"journal ".as_slice()) => {
                 JOURNAL_MILLIS
             }

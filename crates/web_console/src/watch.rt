@@ -65,6 +65,8 @@ impl<'a, R: Wait + Net + Clock> Watch<'a, R> {
         let patience = Duration::from_millis(FOLLOW_MILLIS);
         let mut station = Station::connect(self.rt, self.alloc, self.path, patience)?;
         let status = station.ask(self.rt, Asked::Status.line(), patience)?;
+        // a large file may have left only its pieces among the last events of all
+        let _kept = station.ask(self.rt, Asked::Kept.line(), patience)?;
         let _ok = station.ask(self.rt, Asked::Events.line(), patience)?;
         self.begin_run(status.as_slice())?;
         for _ in self.rt.forever() {

@@ -1,22 +1,26 @@
 //! The service: the response to each request.
-ghost use Rattle.std.specs.Prelude.{◌≡◌, ◌⊎◌, [], OnOk};
+ghost use Rattle.std.specs.Prelude.{◌≡◌, ◌⊎◌, ◌++◌, [], OnOk};
 ghost use Rattle.http.specs.Request.{body_of};
 ghost use Rattle.http_server.specs.Response.{IsBlank, fields_of};
 ghost use Rattle.web_pages.specs.Answers.{IsAnswered, IsAt, IsObeyed, IsPage, IsPostedAt, IsReadAt, IsRefused, IsShown, IsWrongMethod, last_seen, status_of};
 ghost use Rattle.web_pages.specs.Guard.{IsFor, HasToken};
+ghost use Rattle.web_pages.specs.Page.{whole_page};
 ghost use Rattle.web_pages.specs.Routes.{asked_route};
 ghost use Rattle.web_pages.specs.Settings.{settings_of, source_of, token_of};
 
 use crate::command::is_command;
 use crate::guard::{Names, Verdict, is_for, judge};
 use crate::headers::{POLICY, add_headers};
-use crate::page::PAGE;
+use crate::page::commands::COMMANDS;
+use crate::page::head::HEAD;
+use crate::page::live::LIVE;
+use crate::page::tables::TABLES;
 use crate::permit::{Permit, permit_of};
 use crate::route::Route;
 use crate::source::{Found, Source};
 use bytes::{BufMut, Bytes};
 use http::{HeaderValue, Request, StatusCode, header};
-use http_server::{Response, Service};
+use http_server::{Response, Rope, Service};
 use std::alloc::{AllocError, Global};
 
 /// What the console was started with.
@@ -51,7 +55,7 @@ impl<'a, S: Source> Console<'a, S> {
     // Answers a request that is for the console.
     fn answer(&self, request: &Request<Bytes>, response: &mut Response) -> Result<(), AllocError>
         requires { IsBlank response.old }
-        ensures { OnOk result (IsAnswered POLICY.now PAGE.now (token_of self.now) (S.shows self.now.source.now) (S.tells self.now.source.now) request.now response.new) }
+        ensures { OnOk result (IsAnswered POLICY.now whole_page (token_of self.now) (S.shows self.now.source.now) (S.tells self.now.source.now) request.now response.new) }
     {
         match judge(request) {
             Verdict::OtherSite => refuse(response, StatusCode::FORBIDDEN),
@@ -69,7 +73,7 @@ impl<'a, S: Source> Console<'a, S> {
         response: &mut Response,
     ) -> Result<(), AllocError>
         requires { IsBlank response.old }
-        ensures { OnOk result (IsAt (IsReadAt POLICY.now PAGE.now (S.shows self.now.source.now) request.now) (asked_route request.now) response.new) }
+        ensures { OnOk result (IsAt (IsReadAt POLICY.now whole_page (S.shows self.now.source.now) request.now) (asked_route request.now) response.new) }
     {
         match Route::at(request.uri().path()) {
             None => refuse(response, StatusCode::NOT_FOUND),
@@ -149,10 +153,41 @@ fn last_id(request: &Request<Bytes>) -> &[u8]
 // Answers with the page.
 fn show_page(response: &mut Response) -> Result<(), AllocError>
     requires { IsBlank response.old }
-    ensures { OnOk result (IsPage POLICY.now PAGE.now response.new) }
+    ensures { OnOk result (IsPage POLICY.now whole_page response.new) }
+{
+    show_parts(response, HEAD, TABLES, LIVE, COMMANDS)
+}
+
+// Answers with a page in four parts.
+fn show_parts(
+    response: &mut Response,
+    first: &str,
+    second: &str,
+    third: &str,
+    last: &str,
+) -> Result<(), AllocError>
+    requires { IsBlank response.old }
+    ensures { OnOk result (IsPage POLICY.now (((first.now ++ second.now) ++ third.now) ++ last.now) response.new) }
 {
     add_headers(Route::Page, response)?;
-    response.body.put_slice(PAGE.as_bytes())
+    put_parts(&mut response.body, first, second, third, last)
+}
+
+// Adds the parts of a text to an empty body.
+fn put_parts(
+    body: &mut Rope,
+    first: &str,
+    second: &str,
+    third: &str,
+    last: &str,
+) -> Result<(), AllocError>
+    requires { body.old.items ≡ [] }
+    ensures { OnOk result (body.new.items ≡ ((first.now ++ second.now) ++ third.now) ++ last.now) }
+{
+    body.put_slice(first.as_bytes())?;
+    body.put_slice(second.as_bytes())?;
+    body.put_slice(third.as_bytes())?;
+    body.put_slice(last.as_bytes())
 }
 
 // Answers with a text of the source's, and with the status for whether the station answered.
@@ -204,14 +239,13 @@ fn refuse_but(response: &mut Response, route: Route) -> Result<(), AllocError>
 
 impl<'a, S: Source> Service for Console<'a, S> {
     ghost use Rattle.web_pages.specs.declared.headers.TheConstants.{POLICY};
-    ghost use Rattle.web_pages.specs.declared.page.TheConstants.{PAGE};
 
     // The console stays as it is. A request that is not for one of its names gets 403, with no header and no body. Any
     // other gets the answer that is defined for it.
     ghost answers = { λ old request response new. (new ≡ old)
         × (((¬ IsFor old.settings.now.names.first.items old.settings.now.names.second.items request) × IsRefused 403 response)
         ⊎ (IsFor old.settings.now.names.first.items old.settings.now.names.second.items request
-        × IsAnswered POLICY.now PAGE.now (token_of old) (S.shows old.source.now) (S.tells old.source.now) request response)) };
+        × IsAnswered POLICY.now whole_page (token_of old) (S.shows old.source.now) (S.tells old.source.now) request response)) };
 
     fn call(
         &mut self,

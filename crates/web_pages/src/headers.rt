@@ -12,7 +12,7 @@ use std::alloc::AllocError;
 /// The content security policy: nothing comes from elsewhere, and of what is in the page only its own style and script
 /// are used, by their hashes.
 pub(crate) const POLICY: &str =
-    "default-src 'none'; style-src 'sha256-Lzf7JTnxnIDEUIw3OHrUzuC8DltfP6jqIkHItBoWiWc='; script-src 'sha256-rj1EWXzXegiPdxaReE0/9cKphvxTt+gxg/RCQSY4tZE='; connect-src 'self'; base-uri 'none'; form-action 'none'; frame-ancestors 'none'";
+    "default-src 'none'; style-src 'sha256-maNjdkct7LGEuRh4p02cCVHTjqzA1jJoP2xVwiyazwA='; script-src 'sha256-OJo8mymIy4lQlWivfMcMUluoi5X1XRcVtOKEwfLD9E8='; connect-src 'self'; base-uri 'none'; form-action 'none'; frame-ancestors 'none'";
 
 /// Adds the headers of what is at a route.
 pub(crate) fn add_headers(route: Route, response: &mut Response) -> Result<(), AllocError>

@@ -49,3 +49,26 @@ fn events_of_two_runs(rt: HostRuntime) -> Result<(), Fail> {
     assert!(rt; are_last(&events, &mut text)? && begins_anew(rt.alloc(), &mut events, &mut text)?);
     Ok(())
 }
+
+// Pieces of a file push out older pieces, and no other event.
+fn keeps_others(
+    alloc: Global,
+    events: &mut Events,
+    text: &mut Vec<u8>,
+) -> Result<bool, AllocError> {
+    events.begin(b"c".as_slice())?;
+    push(alloc, events, 1, b"{}")?;
+    for number in 2..=1030 {
+        push(alloc, events, number, br#"{"level":"detail"}"#)?;
+    }
+    tell(events, b"", text)?;
+    Ok(text.as_slice().starts_with(b"retry: 1000\n\nid: c-1\ndata: {}\n\nid: c-7\n".as_slice()))
+}
+
+#[test]
+fn pieces_of_a_file(rt: HostRuntime) -> Result<(), Fail> {
+    let mut events = Events::new(rt.alloc());
+    let mut text = Vec::new(rt.alloc());
+    assert!(rt; keeps_others(rt.alloc(), &mut events, &mut text)?);
+    Ok(())
+}

@@ -1,7 +1,9 @@
 use Rattle.std.proofs.Common.{rules, ◌≡◌, ◌∙◌, sym, ap, ℕ, ◌<◌, ◌++◌, List, length, Some, slice_get, arith, append_assoc, Vec, Global}
 use Rattle.std.proofs.lemmas.Option.{slice_get-get_or}
-use Rattle.kept_events.specs.declared.ring.KeptLine.{KeptLine}
+use Rattle.kept_events.specs.KeptLines.{LineValue}
 use Rattle.kept_events.specs.Rings.{text_after}
+use Rattle.event_levels.specs.Levels.{reaches}
+use Rattle.event_levels.specs.declared.level.Level.{Level}
 use Rattle.kept_events.proofs.RingFacts.{matters_more, passes_one, shows_one}
 use Rattle.kept_events.proofs.ring.push_behind.Goals as goal
 use Rattle.kept_events.proofs.ring.push_behind.Goals.{then-passed-skipped, else-passed-skipped+in_ok-push_line}
@@ -10,8 +12,8 @@ pub loop-place-preserved : goal.loop-place-preserved
 loop-place-preserved c =
     let within : c.loop-place.place < length c.args.lines.now.items = search rules in
     let there : slice_get c.args.lines.now.items c.loop-place.place ≡ Some c.in-Some.line.now =
-    slice_get-get_or c.args.lines.now.items c.loop-place.place c.in-Some.line.now within ∙ ap (λ (l : KeptLine). Some l) (sym c.in-Some.ensures.lookup) in
-    let more = matters_more c.args.least c.args.lines.now.items c.loop-place.place c.in-Some.line.now within there (sym c.reaches.ensures ∙ c.if-not-reaches.false) in
+    slice_get-get_or c.args.lines.now.items c.loop-place.place c.in-Some.line.now within ∙ ap (λ (l : LineValue). Some l) (sym c.in-Some.ensures.lookup) in
+    let more = matters_more c.args.least c.args.lines.now.items c.loop-place.place c.in-Some.line.now within there (ap (λ (l : Level). reaches l c.args.least) (sym c.level.ensures) ∙ sym c.reaches.ensures ∙ c.if-not-reaches.false) in
     elim c.if-passed-skipped.branch [
       | then-passed-skipped w ↦
           let one = passes_one c.args.form c.args.word.now c.args.skipped c.loop-place.passed _ _ c.in-Some.line.now more c.loop-place.invariant.passed w.if-passed-skipped.true in

@@ -14,4 +14,4 @@ pub returns-in-Some : goal.returns-in-Some
 returns-in-Some c =
     let there : slice_get c.self.inside.lanes.items c.args.place ≡ Some c.in-Some.lane.now = there_by _ _ _ _ c.deref.ensures.value c.in-Some.ensures.lookup.3.0 c.in-Some.ensures.lookup.1 in
     let p : ParkingValue = record { lanes = c.self.inside.lanes.items; arrivals = c.self.inside.arrivals; room = c.self.inside.room } in
-    replaced_is p _ _ (settled c.args.is_taken c.args.number c.args.arrival) c.in-Some.lane.now _ (sym c.self.view_is) there (c.settle_at-now.ensures.lanes c.in-Some.lane.now there)
+    replaced_is p _ _ (settled c.args.outcome c.args.number c.args.arrival) c.in-Some.lane.now _ (sym c.self.view_is) there (c.settle_at-now.ensures.lanes c.in-Some.lane.now there)

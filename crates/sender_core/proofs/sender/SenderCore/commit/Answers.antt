@@ -23,6 +23,3 @@ returns-clause-stands c event log planned stood =
     ap (λ r. state_from c.args.plan.next r) (fun_ext c.apply_remainder.ensures)
     ∙ planned.answered.follows
     ∙ ap (λ s. step (sending_of c.args.self.now) s (record { event = event; answer = plan_answer c.args.plan })) stood
-
-pub apply_remainder-requires : goal.apply_remainder-requires
-apply_remainder-requires c = c.requires.planned.1.room

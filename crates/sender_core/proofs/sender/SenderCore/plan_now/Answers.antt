@@ -40,4 +40,4 @@ returns-clause-planned c =
     let event = c.args.event.now in
     let taken : refusal_of (sending_of core) (shown core) event ≡ None = sym c.refusal_of.ensures ∙ search rules in
     let inside : extent_of (option_to_list c.in_ok-response.response.pdu) ≤ length core.request.file = rw c.in_ok-response.ensures.pdus (extent_inside (sending_of core) (shown core) event) in
-    is_plan core event c.in_ok-response.response c.in_ok-remainder.remainder c.in_ok-plan.plan taken c.in_ok-response.ensures c.in_ok-plan.ensures c.in_ok-remainder.ensures.after c.in_ok-remainder.ensures.room inside
+    is_plan core event c.in_ok-response.response c.in_ok-remainder.remainder c.in_ok-plan.plan taken c.in_ok-response.ensures c.in_ok-plan.ensures c.in_ok-remainder.ensures inside

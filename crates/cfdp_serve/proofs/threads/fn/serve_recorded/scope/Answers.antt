@@ -1,9 +1,0 @@
-use denote.Param.Send.{param_send}
-use Rattle.cfdp_serve.proofs.threads.fn.serve_recorded.scope.Goals as goal
-
--- what the caller promises of the types stands behind the seven facts on their lifetimes
-pub serve_stored-ended-requires-send-N : goal.serve_stored-ended-requires-send-N
-serve_stored-ended-requires-send-N g c κs within = param_send 0 g.row.N c.requires.1.1.1.1.1.1.1.0
-
-pub serve_stored-ended-requires-send-I : goal.serve_stored-ended-requires-send-I
-serve_stored-ended-requires-send-I g c κs within = param_send 3 g.row.I c.requires.1.1.1.1.1.1.1.2

@@ -1,0 +1,9 @@
+//! What workers do with the datagrams that arrive, and with what the entity answers: they send the PDUs of their steps
+//! and leave the rest at a desk.
+#![tactic(auto)]
+
+mod arrivals;
+mod forwarder;
+
+pub use arrivals::{Arrivals, Sources};
+pub use forwarder::{Forwarder, forwarders_of, run_forwarders};

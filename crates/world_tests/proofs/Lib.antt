@@ -1,2 +1,0 @@
-pub mod DeskFacts
-pub mod SharedFacts
