@@ -439,7 +439,7 @@ def many_files():
         check("a reply that comes late, after events", ctl("send", "--to", "5", "--wait", FILE), 0, b": finished: complete, retained\n")
     with station("--flood", "70000", "--step", "3"):
         check("too many events before a reply", ctl("send", "--to", "5", "--wait", FILE), 1, b"queued 1", b"too many events before its answer\n")
-    with station("--step", "1"):
+    with station("--step", "1", "--levels"):
         check("hold", ctl("hold", "5"), 0)
         folder = hot_folder("hot", {"a": 1})
         runs = [subprocess.Popen([PROGRAM, "--control", SOCKET, *words], stdout=subprocess.DEVNULL, env=PLAIN)

@@ -30,6 +30,7 @@ usage: tests/fake_station.py SOCKET [OPTION..]
   --flood N          events that come before the reply to a second `follow` (0)
   --talk SECONDS     how long the reply to a second `follow` takes, with an event each half second (0)
   --stop SECONDS     stops answering this long after the first send, and stays connected
+  --levels           the levels that followers asked for, which a real station doesn't tell, in the entity's line
   --say FILE         what a status says, and which events a follower receives: JSON with lists `status` and `events`
 """
 import argparse
@@ -250,7 +251,8 @@ class Station:
             return
         moved = {number: self.moved(number) for number in (5, 7)}
         yield {"kind": "entity", "id": 1, "version": "0.1", "started": moment(self.begun), "now": moment(), "workers": 4,
-               "clients": len(self.clients), "events": self.number, "levels": [client.level for client in list(self.followers)],
+               "clients": len(self.clients), "events": self.number,
+               **({"levels": [client.level for client in list(self.followers)]} if self.options.levels else {}),
                "counters": {"datagrams_in": 12, "octets_in": 9000 + moved[5][0] + moved[7][0], "datagrams_out": 3,
                             "octets_out": 90 + moved[5][1] + moved[7][1], "failed_sends": 0,
                             "failed_reads": 0, "ended_reads": self.options.ended_reads, "foreign_datagrams": 0,
@@ -458,6 +460,7 @@ def main():
     parser.add_argument("--flood", type=int, default=0)
     parser.add_argument("--talk", type=float, default=0)
     parser.add_argument("--stop", type=float)
+    parser.add_argument("--levels", action="store_true")
     parser.add_argument("--say", type=lambda path: json.load(open(path)))
     options = parser.parse_args()
     if os.path.exists(options.socket):

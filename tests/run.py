@@ -208,8 +208,11 @@ def play(script, programs, place):
     with tempfile.TemporaryDirectory(prefix=f"{script.name}-", ignore_cleanup_errors=True) as room, tempfile.TemporaryFile() as told:
         around = {**os.environ, "TMPDIR": room, "TEST_PORTS": f"{first}-{first + PORTS}", "PYTHONUNBUFFERED": "1"}
         # what is left behind may hold the file open, and nobody waits for that
-        run = subprocess.Popen(words_of(script, programs), cwd=TOP, env=around, stdin=subprocess.DEVNULL, stdout=told,
-                               stderr=subprocess.STDOUT, start_new_session=True)
+        try:
+            run = subprocess.Popen(words_of(script, programs), cwd=TOP, env=around, stdin=subprocess.DEVNULL, stdout=told,
+                                   stderr=subprocess.STDOUT, start_new_session=True)
+        except OSError as why:
+            return Run(1, time.monotonic() - begun, f"it can't be started: {why}\n")
         RUNNING.add(run.pid)
         try:
             status = run.wait(LIMIT)
