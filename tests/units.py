@@ -7,6 +7,7 @@ usage: tests/units.py SERVER CTL
 Where systemd-analyze is here, it reads the units too.
 """
 import contextlib
+import json
 import os
 import pathlib
 import re
@@ -14,6 +15,7 @@ import shlex
 import shutil
 import subprocess
 import sys
+import time
 
 from support import Client, Skipped, Wrong, case, close_run, run_cases, station, until, want
 
@@ -115,6 +117,40 @@ def the_unit_of_a_hot_folder():
 
 
 @case
+def the_unit_of_a_plan():
+    """Its command opens a link by the plan that it names."""
+    unit = settings("cfdp_windows.service")
+    plan = pathlib.Path(os.getcwd() + "/etc/cfdp/plan")
+    plan.parent.mkdir(parents=True)
+    moment = lambda seconds: time.strftime("%Y-%m-%dT%H:%M:%SZ", time.gmtime(time.time() + seconds))
+    plan.write_text(f"{moment(-60)} {moment(600)} 2\n")
+    with station(SERVER, options=("station.hold = true",), users=("alice",)) as (one, _):
+        words = [one.path if word.endswith("/run/cfdp/control") else word for word in placed(unit["ExecStart"])]
+        want(words[-2:], ["windows", str(plan)])
+        run = subprocess.Popen(words, stdin=subprocess.DEVNULL, stdout=subprocess.PIPE, stderr=subprocess.PIPE)
+        try:
+            client = one.client()
+            links = lambda: [line for line in client.status() if line["kind"] == "remote" and "open_until" in line]
+            until(lambda: links() or run.poll() is not None, "the window")
+            want((run.poll(), [line["held"] for line in links()]), (None, [False]))
+        finally:
+            close_run(run)
+
+
+@case
+def units_are_closed():
+    """Each unit is closed at least as far as the server's."""
+    is_closing = lambda name: name.startswith(("Protect", "Private", "Restrict", "NoNew", "Capability", "SystemCall", "LimitAS", "UMask"))
+    server = {name: told for name, told in settings("cfdp_server.service").items() if is_closing(name)}
+    want(len(server) > 8, True)
+    for unit in ("cfdp_web.service", "cfdp_watch@.service", "cfdp_windows.service"):
+        own = settings(unit)
+        families = set(own["RestrictAddressFamilies"].split()) - set(server["RestrictAddressFamilies"].split())
+        lacking = {name for name, told in server.items() if own.get(name) != told and name not in ("RestrictAddressFamilies", "LimitAS")}
+        want((unit, families, lacking, "LimitAS" in own), (unit, set(), set(), True))
+
+
+@case
 def what_is_rotated():
     """It is the log that the unit names, by the unit's user, and it is moved away, not copied."""
     text = (EXAMPLES / "cfdp_server.logrotate").read_text()
@@ -123,6 +159,28 @@ def what_is_rotated():
     log = re.search(r'(?m)^file = "(.*)"', made)[1]
     lines = [line.strip() for line in text.splitlines()]
     want((f"{log} {{" in lines, f"su {unit['User']} {unit['Group']}" in lines, "copytruncate" in lines), (True, True, False))
+
+
+def installed():
+    """The programs that are installed, by where the Makefile finds them, and by the lists of `install` and `install-web`."""
+    makefile = (TOP / "Makefile").read_text()
+    places = dict(re.findall(r"(?m)^(\w+) := (crates/\w+/out/\w+)$", makefile))
+    lists = re.findall(r"(?m)^\tinstall -m 755 (.*) \$\(DESTDIR\)\$\(PREFIX\)/bin$", makefile)
+    return {places[name] for line in lists for name in re.findall(r"\$\((\w+)\)", line)}
+
+
+@case
+def the_container():
+    """It takes each installed program from where it is built, and nothing else comes along; a user of its own runs the server."""
+    steps = [step.split(None, 1) for step in re.sub(r"\\\n\s*", "", (TOP / "Containerfile").read_text()).splitlines() if step and step[0] != "#"]
+    copied = [words.split() for name, words in steps if name == "COPY"]
+    want(({path for words in copied for path in words[:-1]}, {words[-1] for words in copied}), (installed(), {"/usr/local/bin/"}))
+    passed = [line for line in (TOP / ".dockerignore").read_text().splitlines() if not line.startswith("#")]
+    want((passed[0], {line for line in passed[1:]}), ("*", {"!" + path for path in installed()}))
+    last = dict(steps)
+    want((last["USER"], last["VOLUME"], json.loads(last["ENTRYPOINT"])), ("cfdp", "/var/lib/cfdp", ["cfdp_server", "/etc/cfdp/station.toml"]))
+    guide = (TOP / "docs" / "operating.md").read_text()
+    want([word for word in (last["ENV"].split("=")[0], last["ENV"].split("=")[1], last["EXPOSE"], last["VOLUME"]) if word not in guide], [])
 
 
 @case
