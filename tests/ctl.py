@@ -428,6 +428,175 @@ def status_over_restarts():
             run.wait()
 
 
+def utc(seconds):
+    """The moment so many seconds from now, as a plan has it."""
+    return time.strftime("%Y-%m-%dT%H:%M:%SZ", time.gmtime(time.time() + seconds))
+
+
+def plan(*lines):
+    """A file with these lines of a plan."""
+    path = os.path.join(FOLDER, "plan")
+    with open(path, "w", encoding="utf-8") as file:
+        file.write("".join(line + "\n" for line in lines))
+    return path
+
+
+# Lines of a plan that can't be used, and what is said of each.
+NO_WINDOWS = (
+    ("2026-13-01T10:00:00Z 2026-12-01T11:00:00Z 7", "'2026-13-01T10:00:00Z' is not a moment in UTC, such as 2026-12-01T10:00:00Z"),
+    ("2026-12-01T10:00:00Z 2026-12-01 11:00:00Z", "'2026-12-01' is not a moment in UTC, such as 2026-12-01T10:00:00Z"),
+    ("2026-12-01T10:00:00Z 2026-12-01T10:00:00Z 7", "'2026-12-01T10:00:00Z' is not after the beginning of its window"),
+    ("2026-12-01T10:00:00Z 2026-12-01T11:00:00Z seven # seven", "'seven' is not the number of an entity"),
+    ("2026-12-01T10:00:00Z 2026-12-01T11:00:00Z 7 8k", "'8k' is not a number of octets a second from 1 to 1000000000, or off"),
+    ("2026-12-01T10:00:00Z", "'2026-12-01T10:00:00Z' begins a line with fewer than three words: FROM UNTIL ENTITY [RATE]"),
+    ("2026-12-01T10:00:00Z 2026-12-01T11:00:00Z 7 8000 ever", "'ever' is one word too many: FROM UNTIL ENTITY [RATE]"),
+    ("2026-12-01T10:59:59Z 2026-12-01T12:00:00Z 5", "'2026-12-01T10:59:59Z' begins before the window of line 3 has ended"))
+
+
+def bad_plans():
+    """Each line of a plan that can't be used is told, and nothing is done by it."""
+    path = plan("# a contact plan", "", "  2026-12-01T10:00:00Z\t2026-12-01T11:00:00Z 5 off # a comment", *[line for line, _ in NO_WINDOWS])
+    wanted = "".join(f"cfdp_ctl: {path}: line {place}: {why}\n" for place, (_, why) in enumerate(NO_WINDOWS, 4)).encode()
+    with station():
+        for words in (["windows", path], ["windows", path, "--check"]):
+            run = ctl(*words)
+            want(f"a bad plan, {words}", (run.returncode, run.stdout, run.stderr) == (2, b"", wanted), run)
+        path = plan(f"{utc(-60)} {utc(600)} 5", f"{utc(-60)} {utc(600)} 9", f"{utc(-60)} {utc(-30)} 8")
+        run = ctl("windows", path)
+        want("an entity that the server doesn't have", (run.returncode, run.stdout, run.stderr) ==
+             (2, b"", f"cfdp_ctl: {path}: line 2: '9' is not an entity of the server\n".encode()), run)
+        want("nothing is done by a bad plan", not any(line["held"] or "open_until" in line for line in lines_like("remote")), lines_like("remote"))
+        run = ctl("windows", plan(f"{utc(-60)} {utc(-30)} 5"))
+        want("a plan of the past", (run.returncode, run.stdout) == (0, b"") and b"no window is left\n" in run.stderr, run)
+    check("a plan that isn't there", ctl("windows", "missing", "--check"), 3, b"", b"missing: no such file\n")
+    for words, why in ((["windows"], b"error: windows needs one file with a plan\n"), (["windows", "a", "b"], b"windows needs one file"),
+                       (["windows", "a", "--json"], b"--json doesn't go with windows"), (["status", "--check"], b"--check doesn't go with status")):
+        check(f"{words}", ctl(*words), 2, b"", why)
+
+
+def plans_as_tables():
+    """A plan as a table, without a server: what is open, what comes and in how long, in the order of time."""
+    path = plan("2999-12-01T10:00:00Z 2999-12-01T11:00:00Z 7 8000", "2001-02-03T04:05:06Z 2999-01-01T00:00:00Z 5 off", "2001-01-01T00:00:00Z 2001-01-01T00:01:00Z 12",
+                f"{utc(7_290)} {utc(10_000)} 3 1")
+    run = ctl("windows", "--check", path, control=False)
+    lines = run.stdout.decode().splitlines()
+    want("a plan as a table", run.returncode == 0 and len(lines) == 5 and lines[0] == "entity  from                  until                 rate            now", run)
+    want("a window that is over", lines[1] == "12      2001-01-01T00:00:00Z  2001-01-01T00:01:00Z  -               over", lines)
+    want("a window that is open", lines[2].startswith("5       2001-02-03T04:05:06Z  2999-01-01T00:00:00Z  no limit        open, ")
+         and lines[2].endswith(" h left"), lines)
+    want("a window that comes", lines[3].startswith("3  ") and lines[3].endswith("  1 B/s           in 2 h 1 min"), lines)
+    want("a window that comes much later", lines[4].startswith("7       2999-12-01T10:00:00Z  2999-12-01T11:00:00Z  8000 B/s        in ") and " d " in lines[4], lines)
+
+
+def given(run):
+    """The commands that a plan's run has given, all of which were taken."""
+    lines = run.decode().splitlines()
+    want("what a plan's run prints", all(line[20] == " " and line.endswith(": ok") for line in lines), lines)
+    return [line[21:-4] for line in lines]
+
+
+def plans_that_run():
+    """Links are opened and held at their moments, and the run ends with its last window."""
+    with station():
+        path = plan(f"{utc(-60)} {utc(5)} 5 8000", f"{utc(7)} {utc(9)} 5", f"{utc(3)} {utc(90_000)} 7 off")
+        run = subprocess.Popen([PROGRAM, "--control", SOCKET, "windows", path], stdout=subprocess.PIPE, env=PLAIN)
+        wait_for("a link that is held outside its windows", lambda: [line["held"] for line in lines_like("remote")] == [False, True])
+        wait_for("both open", lambda: all("open_until" in line for line in lines_like("remote")))
+        wait_for("the end of the first window", lambda: lines_like("remote")[0]["held"])
+        wait_for("the second window", lambda: not lines_like("remote")[0]["held"])
+        run.terminate()
+        told = given(run.communicate(timeout=PATIENCE)[0])
+        want("the first commands", told[:3] == ["rate 5 8000", "release 5 5", "hold 7"] or told[:3] == ["rate 5 8000", "release 5 4", "hold 7"], told)
+        want("the next commands", told[3:] in (["rate 7 off", "release 7 86400", "release 5 2"], ["rate 7 off", "release 7 86400", "release 5 1"]), told)
+        run = ctl("windows", plan(f"{utc(-60)} {utc(3)} 5", f"{utc(-60)} {utc(1)} 7"))
+        want("a run that ends with its last window", run.returncode == 0 and 1 < run.took < PATIENCE and len(given(run.stdout)) == 2, run)
+
+
+def plans_over_restarts():
+    """What is open is opened again at the next server, and all else is held there."""
+    path, run = plan(f"{utc(-60)} {utc(600)} 5", f"{utc(600)} {utc(700)} 7"), None
+    try:
+        for turn in range(2):
+            with station():
+                if run is None:
+                    run = subprocess.Popen([PROGRAM, "--control", SOCKET, "windows", path], stdout=subprocess.PIPE, stderr=subprocess.PIPE, env=PLAIN)
+                wait_for(f"what is open, turn {turn}", lambda: "open_until" in lines_like("remote")[0] and lines_like("remote")[1]["held"])
+        run.terminate()
+        out, errors = run.communicate(timeout=PATIENCE)
+        told = [line.split()[0:2] for line in given(out)]
+        want("a plan over a restart", told == [["release", "5"], ["hold", "7"]] * 2 and errors.count(b"; waiting for it\n") in (1, 2), (out, errors))
+    finally:
+        if run is not None and run.poll() is None:
+            run.kill()
+            run.wait()
+
+
+def plans_killed(sender):
+    """A run that is killed leaves no link open: the server holds it when its window ends."""
+    remote = lambda: next(line for line in map(json.loads, sender.ctl(PROGRAM, "status", "--json").stdout.splitlines()) if line["kind"] == "remote")
+    run = subprocess.Popen([PROGRAM, "--control", sender.path, "windows", plan(f"{utc(-60)} {utc(6)} 2 1000000")], stdout=subprocess.PIPE, env=PLAIN)
+    wait_for("a window of a server", lambda: "open_until" in remote())
+    run.kill()
+    told = given(run.communicate(timeout=PATIENCE)[0])
+    want("what a server was given", told[0] == "rate 2 1000000" and told[1].startswith("release 2 ") and len(told) == 2, told)
+    wait_for("the end of a window of a server", lambda: remote()["held"])
+    want("a server's link", sender.ctl(PROGRAM, "release", "2").returncode == 0, remote())
+
+
+def resends():
+    """A file is sent again as it was sent, unless it isn't known, not there any more, or another one."""
+    path, told = os.path.join(FOLDER, "again"), os.path.join(FOLDER, "told")
+    with open(path, "wb") as file:
+        file.write(b"x" * 300)
+    with station("--transactions", "1", "--pace", "1"):
+        check("a file", ctl("send", "--to", "5", "--class", "1", "--into", "in", "--wait", "again"), 0)
+        check("resend", ctl("resend", "1.100"), 0, f"queued 2: {path}\n".encode())
+        has_ended(101)
+        sent = [{name: line[name] for name in ("user", "peer", "class", "file", "to", "size")} for line in lines_like("transaction") if line["role"] == "sender"]
+        want("a file that is sent again", sent == [{"user": "ops", "peer": 5, "class": 1, "file": "again", "to": "in/again", "size": 300}] * 2, sent)
+        check("resend of a file that came", ctl("resend", "7.0"), 3, b"", b"cfdp_ctl: 7.0: its file was received here, and not sent\n")
+        check("resend of a transaction that nobody knows", ctl("resend", "1.999"), 3, b"", b"cfdp_ctl: 1.999: its file isn't known: ")
+        check("resend of no transaction", ctl("resend", "again"), 2, b"", b"error: resend: 'again' is not a transaction (SOURCE.SEQ)\n")
+        check("resend with a word too many", ctl("resend", "1.100", "again"), 2, b"", b"resend doesn't take the word 'again'\n")
+        put = {"at": "2999-01-01T00:00:00.000Z", "number": 1, "kind": "put", "user": "ops", "source": 1, "seq": 41, "peer": 5, "class": 2, "file": path,
+               "to": "b", "size": 300}
+        with open(told, "w", encoding="utf-8") as log:
+            log.write("no JSON\n" + json.dumps({**put, "to": "a"}) + "\n" + json.dumps(put) + "\n")
+        check("resend of a file that only a log has", ctl("resend", "1.41", "--log", told), 0, f"queued 3: {path}\n".encode())
+        has_ended(102)
+        want("a file of a log", [line["to"] for line in lines_like("transaction") if line["seq"] == 102] == ["b"], lines_like("transaction"))
+        check("resend with a log that isn't there", ctl("resend", "1.41", "--log", "missing"), 3, b"", b"missing: no such file\n")
+        os.utime(path, (time.time() + 10, time.time() + 10))
+        changed = f": {path}: the file changed since it was sent; send puts it into the outbox as it is now\n".encode()
+        check("resend of a file that was written", ctl("resend", "1.100"), 3, b"", b"cfdp_ctl: 1.100" + changed)
+        with open(path, "ab") as file:
+            file.write(b"x")
+        os.utime(path, (0, 0))
+        check("resend of a file that is longer", ctl("resend", "1.100"), 3, b"", b"cfdp_ctl: 1.100" + changed)
+        os.unlink(path)
+        check("resend of a file that is gone", ctl("resend", "1.100"), 3, b"", f"cfdp_ctl: 1.100: {path}: the file is gone\n".encode())
+    with station("--step", "60", "--refuse"):
+        check("resend that a server refuses", ctl("resend", "1.41", "--log", told), 3, b"", b"the file is gone\n")
+        with open(path, "wb") as file:
+            file.write(b"x" * 300)
+        check("resend that a server refuses", ctl("resend", "1.41", "--log", told), 3, b"", f"cfdp_ctl: {path}: refused OutboxFull\n".encode())
+    with station("--step", "60"):
+        check("a file", ctl("send", "--to", "5", "again"), 0)
+        wait_for("a transaction", lambda: any(line["seq"] == 100 for line in lines_like("transaction")))
+        check("resend of a transaction under way", ctl("resend", "1.100"), 3, b"", b"cfdp_ctl: 1.100: it is still under way\n")
+
+
+def resent_by_servers(sender, receiver):
+    """A server's file that ended is sent again, and arrives."""
+    lines = lambda one: [line for line in map(json.loads, one.ctl(PROGRAM, "status", "--json").stdout.splitlines()) if line["kind"] == "transaction"]
+    seq = next(line["seq"] for line in lines(sender) if line["file"] == "a.bin")
+    run = sender.ctl(PROGRAM, "resend", f"1.{seq}")
+    want("a file that a server sends again", run.returncode == 0 and run.stdout.startswith("queued ") and run.stdout.endswith(f": {FILE}\n"), run)
+    came = lambda: [line for line in lines(receiver) if line["file"] == "a.bin" and line.get("status") == "retained"]
+    wait_for("a file that came twice", lambda: len(came()) == 2)
+    want("its names", {(line["file"], line["to"], line["size"]) for line in came()} == {("a.bin", "a.bin", 5000)}, came())
+
+
 def many_files():
     """A server that is busy with many files, and one whose outbox is full, get time as long as files go on."""
     with station("--room", "3", "--step", "0.1"):
@@ -889,6 +1058,26 @@ def with_servers(server):
         os.chdir(before)
 
 
+def plans_and_resends_of_servers(server):
+    """Two servers, of which one sends a file again, and has a plan."""
+    ports, before, both = [free_port(), free_port()], os.getcwd(), []
+    home = os.path.join(FOLDER, "plans")
+    os.makedirs(home, exist_ok=True)
+    os.chdir(home)
+    try:
+        both += [Station(server, 1, ports[0], 2, ports[1], users=("alice",)), Station(server, 2, ports[1], 1, ports[0], users=("alice",))]
+        for one in both:
+            one.client().close()
+        run = both[0].ctl(PROGRAM, "send", "--to", "2", "--wait", FILE)
+        want("a file between servers", run.returncode == 0, run)
+        resent_by_servers(*both)
+        plans_killed(both[0])
+    finally:
+        for one in both:
+            one.close()
+        os.chdir(before)
+
+
 def hot_folder_of_servers(server):
     """A hundred files over a lossy link, while who watches and the sending server restart: each is once in `sent`, and arrives."""
     ports, relay = [free_port(), free_port()], Relay(0.05)
@@ -1027,12 +1216,12 @@ def completions():
     script = os.path.join(os.path.dirname(os.path.abspath(__file__)), "..", "docs", "completion", "cfdp_ctl")
     for line, offered in (
             ([""], {"--colour", "--control", "abandon", "cancel", "check", "drop", "follow", "history", "hold", "journal", "outbox", "rate",
-                    "release", "reopen", "resume", "send", "status", "suspend", "watch", "--help", "--version", "--wait-for-server", "--width"}),
-            (["--c"], {"--colour", "--control"}), (["re"], {"release", "reopen", "resume"}), (["--control", "x", "sta"], {"status"}),
+                    "release", "reopen", "resend", "resume", "send", "status", "suspend", "watch", "windows", "--help", "--version", "--wait-for-server", "--width"}),
+            (["--c"], {"--colour", "--control"}), (["re"], {"release", "reopen", "resend", "resume"}), (["--control", "x", "sta"], {"status"}),
             (["status", "--"], {"--json", "--watch", "--failed", "--remote"}), (["outbox", "-"], {"--json"}),
             (["watch", "--"], {"--to", "--user", "--class", "--into", "--once", "--delete"}), (["follow", "--l"], {"--last", "--level"}),
             (["abandon", "--y"], {"--yes"}), (["send", "--to", "5", "--c"], {"--class", "--closure"}), (["send", "a"], set()),
-            (["history", "--l"], {"--log"}), (["hold", "--"], set()), (["any"], set())):
+            (["history", "--l"], {"--log"}), (["resend", "--"], {"--log"}), (["windows", "--"], {"--check"}), (["hold", "--"], set()), (["any"], set())):
         words = [PROGRAM, *line]
         run = subprocess.run(["bash", "-c", 'source "$1"; shift; COMP_WORDS=("$@"); COMP_CWORD=$(($# - 1)); _cfdp_ctl; '
                               'printf "%s\\n" "${COMPREPLY[@]}"', "bash", script, *words], capture_output=True, timeout=PATIENCE)
@@ -1316,10 +1505,12 @@ PART = sys.argv[3] if len(sys.argv) > 3 else None
 def all_but_folders():
     for case in (words_of_the_line, answers, no_answers, tables, layout, words_of_events, tones_of_events, at_a_terminal,
                  journal_at_a_terminal, status_over_restarts, events, last_events, next_servers, sends, many_files, sends_again, folders,
-                 checks, long_names, bad_ends, outbox, histories, acts, choices, completions, progress, pipes):
+                 checks, long_names, bad_ends, bad_plans, plans_as_tables, plans_that_run, plans_over_restarts, resends, outbox, histories, acts,
+                 choices, completions, progress, pipes):
         case()
     if SERVER:
         with_servers(SERVER)
+        plans_and_resends_of_servers(SERVER)
 
 
 def watched_folders():

@@ -214,6 +214,14 @@ class Station:
         threading.Thread(target=self.run_queued, args=(sent,), daemon=True).start()
         return f"queued {sent['queued']}\n"
 
+    def end_windows(self):
+        """Holds the links that were released for a time that is over."""
+        for remote, until in list(self.open_until.items()):
+            if until <= time.time():
+                del self.open_until[remote]
+                self.held[remote] = moment(until)
+                self.tell(kind="hold", id=remote, planned=True)
+
     def transactions(self):
         age = time.time() - self.begun
         for n in range(self.options.transactions):
@@ -272,7 +280,7 @@ class Station:
             held = self.held.get(number)
             yield {"kind": "remote", "id": number, "address": f"192.0.2.{number}:4556", "held": held is not None,
                    **({"held_since": held} if held else {}),
-                   **({"open_until": self.open_until[number]} if number in self.open_until else {}), "datagrams_in": 1, "octets_in": 9 + moved[number][0],
+                   **({"open_until": moment(self.open_until[number])} if number in self.open_until else {}), "datagrams_in": 1, "octets_in": 9 + moved[number][0],
                    "datagrams_out": 1, "octets_out": 9 + moved[number][1], "failed_sends": 0,
                    **({"heard": moment(time.time() - 90), "silence": 90_000} if number == 7 and self.options.counters else {})}
         yield {"kind": "refusal", "number": 20, "name": "DecodeFault", "fault": 3, "count": 3, "last": moment(),
@@ -311,6 +319,7 @@ class Station:
         words = words_of(line)
         if not words:
             return "bad command\n"
+        self.end_windows()
         name = words[0].decode("latin-1")
         if name in ("status", "follow") and self.options.old:
             return "bad command\n"
@@ -337,7 +346,7 @@ class Station:
                 if name == "hold":
                     self.held[remote] = moment()
                 elif len(words) == 3:
-                    self.open_until[remote] = moment(time.time() + int(words[2]))
+                    self.open_until[remote] = time.time() + int(words[2])
                 self.tell(kind=name, id=remote)
             return "ok\n"
         if name == "rate" and len(words) in (2, 3):

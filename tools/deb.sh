@@ -27,7 +27,7 @@ for unit in "$top"/examples/*.service; do
 done
 install -m 644 "$top"/examples/station.toml "$top"/examples/peer.toml "$top"/examples/entity.toml "$folder"/usr/share/doc/binesunset/examples
 install -m 755 "$top"/examples/packet_bridge.py "$folder"/usr/share/doc/binesunset/examples
-install -m 644 "$top"/examples/cfdp_watch@.service "$folder"/usr/share/doc/binesunset/examples
+install -m 644 "$top"/examples/cfdp_watch@.service "$top"/examples/cfdp_windows.service "$folder"/usr/share/doc/binesunset/examples
 cp -r "$top"/examples/peers "$top"/examples/links "$top"/examples/monitoring "$folder"/usr/share/doc/binesunset/examples
 # what the server's unit reads, and who rotates its log; both are for an administrator to change
 "$top"/tools/service-file.py > "$room/station.toml"

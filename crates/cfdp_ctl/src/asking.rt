@@ -19,7 +19,7 @@ const PATIENCE_MILLIS: u64 = 4_400;
 const LONG_MILLIS: u64 = 120_000;
 
 // How many milliseconds to wait before the next attempt to reach a server that went away.
-const REST_MILLIS: u64 = 500;
+pub(crate) const REST_MILLIS: u64 = 500;
 
 /// A connection to a server, and how long the server may take to reply.
 #[derive(Drop)]

@@ -15,6 +15,13 @@ pub(crate) struct Known {
     remotes: Vec<u64>,
 }
 
+impl Known {
+    /// Whether the server has a remote entity. One that says nothing about itself is taken to have it.
+    pub(crate) fn has_remote(&self, remote: u64) -> bool {
+        has_remote(self.remotes.as_slice(), remote)
+    }
+}
+
 /// Asks the server for its users and remote entities.
 pub(crate) fn ask_for_known<R: Clock + Wait>(
     rt: &R,

@@ -8,6 +8,9 @@ use crate::history::print_history;
 use crate::hold::Hold;
 use crate::items::{Item, items_at};
 use crate::looking::{look, look_at_outbox};
+use crate::opening::open_by;
+use crate::planning::{show_plan, windows_at};
+use crate::resending::resend;
 use crate::screen::Screen;
 use crate::sending::send;
 use crate::tasks::{print_journal, run_command, run_input};
@@ -147,6 +150,11 @@ where
     if let Task::History(task) = &words.task {
         return print_history(rt, alloc, screen, task);
     }
+    if let Task::Windows(task) = &words.task
+        && task.check
+    {
+        return show_plan(rt, alloc, screen, task.plan);
+    }
     if let Some(path) = words.control {
         return run_told(rt, alloc, screen, words, path);
     }
@@ -220,6 +228,15 @@ where
     {
         return Ok(3);
     }
+    if let Task::Windows(task) = &words.task {
+        return match windows_at(rt, alloc, screen, task.plan)? {
+            Ok(windows) => {
+                let mut line = Line::open(rt, alloc, path, words.patience)?;
+                open_by(rt, alloc, screen, &mut line, (path, task.plan), windows.as_slice())
+            }
+            Err(status) => Ok(status),
+        };
+    }
     let mut line = Line::open(rt, alloc, path, words.patience)?;
     match &words.task {
         Task::Status(task) => look(rt, alloc, screen, &mut line, path, *task),
@@ -230,6 +247,8 @@ where
         Task::Watch(task) => watch(rt, alloc, screen, &mut line, path, *task),
         Task::Journal(transaction) => print_journal(rt, alloc, screen, &mut line, *transaction),
         Task::Act(task) => act(rt, alloc, screen, &mut line, *task),
+        Task::Resend(task) => resend(rt, alloc, screen, &mut line, task),
+        Task::Windows(task) => show_plan(rt, alloc, screen, task.plan),
         Task::History(task) => print_history(rt, alloc, screen, task),
         Task::Command(text) => run_command(rt, alloc, screen, &mut line, text.as_bytes()),
         Task::Input => run_input(rt, alloc, screen, &mut line),

@@ -56,7 +56,8 @@ fn with_send<'a>(alloc: Global, command: Command<'a>) -> Result<Command<'a>, All
         .arg(flag(alloc, "delete"))
 }
 
-// The options that choose transactions, of `status`, `history` and of commands for transactions.
+// The options that choose transactions, of `status`, `history`, `resend` and of commands for transactions; and that of
+// `windows`.
 fn with_choice<'a>(alloc: Global, command: Command<'a>) -> Result<Command<'a>, AllocError> {
     command
         .arg(valued(alloc, "log"))?
@@ -64,5 +65,6 @@ fn with_choice<'a>(alloc: Global, command: Command<'a>) -> Result<Command<'a>, A
         .arg(valued(alloc, "remote"))?
         .arg(flag(alloc, "failed"))?
         .arg(flag(alloc, "all"))?
-        .arg(flag(alloc, "yes"))
+        .arg(flag(alloc, "yes"))?
+        .arg(flag(alloc, "check"))
 }

@@ -78,15 +78,24 @@ Commands:
       --remote R             those with this entity at the other end
       --failed               those that failed
       --json                 prints JSON, an object for each
+  resend SOURCE.SEQ [--log FILE..]
+                             sends the file of a transaction that has ended here again: the same file,
+                             entity, class and names. Refuses one that changed or is gone
+      --log FILE             files of the server's log, for a transaction whose file the server has
+                             forgotten
+  windows PLAN [--check]     opens and holds links by a plan, until its last window has ended. Each line of
+                             it has UTC from, UTC until, an entity and maybe a rate in octets a second:
+                             2026-12-01T10:00:00Z 2026-12-01T10:08:00Z 7 8000
+      --check                only reads the plan, and prints it as a table; needs no server
   journal SOURCE.SEQ         prints a transaction as a script, which cfdp_replay plays
   any other                  is sent to the server as it is. Put -- before words that begin with a
                              hyphen.
 
 Status 0: the server took the command, or each of them; with send --wait or watch --once, each file
-arrived. 1: no server answers, or it went away. 2: the command line is wrong. 3: the server refused a
-command, a line wasn't a command, a file doesn't exist or can't be read, or a number can't be kept. 4:
-with send --wait or watch --once, a file didn't arrive. With check: 0 for OK, 1 for WARNING, 2 for
-CRITICAL.
+arrived. 1: no server answers, or it went away. 2: the command line or a plan is wrong. 3: the server
+refused a command, a line wasn't a command, a file doesn't exist, can't be read or can't be sent again,
+or a number can't be kept. 4: with send --wait or watch --once, a file didn't arrive. With check: 0 for
+OK, 1 for WARNING, 2 for CRITICAL.
 ";
 
 /// What `--help` prints.

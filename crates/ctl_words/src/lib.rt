@@ -6,6 +6,7 @@ mod choosing;
 mod command;
 mod fault;
 mod help;
+mod planning;
 mod reading;
 mod sending;
 mod text;
@@ -19,6 +20,6 @@ pub use reading::ctl_words;
 pub use sending::{SendCommand, send_command};
 pub use text::{COMMAND_OCTETS, command_text, has_long_name, is_too_long};
 pub use words::{
-    ActWords, Choice, Colour, CtlWords, FollowWords, HistoryWords, OutboxWords, SendWords,
-    StatusWords, Task, TransactionWord, Verb, WatchWords,
+    ActWords, Choice, Colour, CtlWords, FollowWords, HistoryWords, OutboxWords, ResendWords,
+    SendWords, StatusWords, Task, TransactionWord, Verb, WatchWords, WindowsWords,
 };

@@ -5,6 +5,7 @@ ghost use Rattle.ctl_words.specs.Commands.{IsWithin};
 use crate::choosing::{act_asked, history_task};
 use crate::command::command;
 use crate::fault::WordsFault;
+use crate::planning::{resend_task, windows_task};
 use crate::text::command_text;
 use crate::watching::watch_task;
 use crate::words::{
@@ -49,7 +50,7 @@ const SEND_OPTIONS: [&str; 9] = [
 // The most times that a file is sent again.
 const MOST_RETRIES: u64 = 1_000;
 
-const TASK_OPTIONS: [&str; 23] = [
+const TASK_OPTIONS: [&str; 24] = [
     "json",
     "watch",
     "user",
@@ -73,6 +74,7 @@ const TASK_OPTIONS: [&str; 23] = [
     "failed",
     "all",
     "yes",
+    "check",
 ];
 
 /// Parses a command line of the program; its first word is the program's own name.
@@ -165,6 +167,8 @@ fn task_by<'a>(
         ["check", others @ ..] => check_task(alloc, matches, others),
         ["journal", word] => journal_task(alloc, matches, word),
         ["history", logs @ ..] => history_task(alloc, matches, logs),
+        ["windows", plans @ ..] => windows_task(alloc, matches, plans),
+        ["resend", word, logs @ ..] => resend_task(alloc, matches, word, logs),
         [name, ..] => match act_asked(alloc, matches, words)? {
             Some(act) => Ok(Task::Act(act)),
             None => command_task(alloc, matches, name, words),
@@ -397,6 +401,7 @@ fn is_given(matches: &ArgMatches<'_>, option: &str) -> bool {
             | "failed"
             | "all"
             | "yes"
+            | "check"
             | "follow-again"
     ) {
         matches.get_flag(option)

@@ -42,6 +42,10 @@ pub enum Task<'a> {
     History(HistoryWords<'a>),
     /// Give a command for one transaction or for several.
     Act(ActWords<'a>),
+    /// Open and hold links by a plan.
+    Windows(WindowsWords<'a>),
+    /// Send the file of a transaction again.
+    Resend(ResendWords<'a>),
 }
 
 /// How the status is shown.
@@ -142,6 +146,23 @@ pub struct HistoryWords<'a> {
     /// Whether only those that failed are printed.
     pub failed: bool,
     /// The paths of the logs: one or more.
+    pub logs: Vec<&'a str>,
+}
+
+/// By which plan links are opened and held.
+#[derive(Clone, Copy)]
+pub struct WindowsWords<'a> {
+    /// The path of the plan.
+    pub plan: &'a str,
+    /// Whether the plan is only read and shown.
+    pub check: bool,
+}
+
+/// Which transaction's file is sent again.
+#[derive(Drop)]
+pub struct ResendWords<'a> {
+    pub transaction: TransactionWord,
+    /// The paths of logs in which its file may be found.
     pub logs: Vec<&'a str>,
 }
 
