@@ -478,6 +478,7 @@ def wide(tab):
         check(f"1280 pixels, with all that is counted: {name} fits", over(tab, name) == 0)
     no_holes(tab)
     holds(tab)
+    passes(tab)
     scales(tab)
     older(tab)
 
@@ -505,6 +506,91 @@ def holds(tab):
     check("acknowledged", after(182, held=True, held_since=moment(180)) == [])
     check("held anew", after(190) == [] and len(after(192, held=True, held_since=moment(191))) == 1)
     check("what is over stays", after(200) == [] and any("is held since 2026-11-26 12:03:11Z (over since" in one for one in alarms(tab)))
+
+
+def bars_of(tab, link, name):
+    """The bars of a line of time, from where to where in hundredths of its width."""
+    drawn = tab.value(f"passLines.get('{link}').{name}.getAttribute('d')") or ""
+    wide = tab.value(f"passLines.get('{link}').svg.clientWidth")
+    return [(round(100 * float(first) / wide), round(100 * float(last) / wide)) for first, last in re.findall(r"M([0-9.]+) [0-9]+H([0-9.]+)V", drawn)]
+
+
+def words_of_pass(tab, link):
+    return tab.value(f"passLines.get('{link}').words.textContent")
+
+
+def passes(tab):
+    """A line of time of twelve hours, of which it is the third: when a link was open by events, until when it is, and what is planned."""
+    at = lambda clock: f"2026-11-26T{clock}:00.000Z"
+    document = lines_at(3)
+    for name in ("transactions", "storing", "users", "refusals"):
+        document[name] = []
+    document["entities"][0].update(started=at("09:36"), now=at("12:00"))
+    link = {**lines_at(0)["remotes"][0], "held": False, "held_since": None, "open_until": at("12:36")}
+    document["remotes"] = [link]
+    tab.value("acknowledgeAll([...memory.raised.keys()]); asksPlan = true; turns.clear(); plannedHolds.clear(); memory.windows.clear()")
+    for kind, clock in (("hold", "10:12"), ("release", "10:48"), ("hold", "11:24"), ("release", "11:45")):
+        tab.value(f"note({json.dumps({'kind': kind, 'id': 255, 'at': at(clock)})})")
+    windows = [("11:45", "12:36"), ("13:48", "14:24"), ("16:12", "16:48")]
+
+    def shown(count, rate=None, faults=()):
+        given = [f"{{ remote: '255', from: Date.parse('{at(begin)}'), until: Date.parse('{at(end)}'){rate or ''} }}" for begin, end in windows[:count]]
+        tab.value(f"plan = {{ windows: [{', '.join(given)}], faults: {json.dumps(list(faults))} }}; show({json.dumps(document)})")
+        return words_of_pass(tab, "255")
+    tab.value("document.getElementById('s-passes').scrollIntoView()")
+    words = shown(2, ", rate: 8000")
+    check(f"a pass in words: {words}", words == "open until 2026-11-26 12:36:00Z, 36 min left. Next 13:48Z to 14:24Z, in 108 min, at most 7.8 KiB/s. 1 window to come.")
+    check("several passes", shown(3, ", rate: 'off'").endswith(" in 108 min, without a limit. 2 windows to come.") and shown(1).endswith(" left. 0 windows to come."))
+    shown(3)
+    check(f"when the link was open {bars_of(tab, '255', 'was')}", bars_of(tab, "255", "was") == [(5, 10), (15, 20), (23, 25)])
+    check(f"until when it is open {bars_of(tab, '255', 'isOpen')}", bars_of(tab, "255", "isOpen") == [(25, 30)])
+    check(f"what is planned {bars_of(tab, '255', 'planned')}", bars_of(tab, "255", "planned") == [(23, 30), (40, 45), (60, 65)])
+    labels = tab.value("[...document.querySelectorAll('#passes text')].map(text => text.textContent)")
+    check(f"an axis in UTC {labels}", labels == ["10:00Z", "12:00Z", "14:00Z", "16:00Z", "18:00Z", "20:00Z"])
+    here = tab.value("Number(passLines.get('255').here.getAttribute('d').match(/M([0-9.]+)/)[1]) / passLines.get('255').svg.clientWidth")
+    check(f"the present moment {here}", abs(here - 0.25) < 0.01)
+    enter(tab, "span", "72")
+    labels = tab.value("[...document.querySelectorAll('#passes text')].map(text => text.textContent)")
+    check(f"three days {labels}", "2026-11-27" in labels and "2026-11-28" in labels and bars_of(tab, "255", "planned")[-1] == (31, 32))
+    enter(tab, "span", "12")
+    document["remotes"] = [{**link, "held": True, "held_since": at("11:50"), "open_until": None}]
+    windows[0] = ("10:48", "11:24")
+    check(f"held outside the windows of a plan {alarms(tab)}", shown(3).startswith("held since 2026-11-26 11:50:00Z, as planned. Next") and not any("is held" in one for one in alarms(tab)))
+    windows[0] = ("11:45", "12:36")
+    check("held in a window of a plan", shown(3).startswith("held since 2026-11-26 11:50:00Z. Next") and any("is held" in one for one in alarms(tab)))
+    shown(0, faults=["line 3: 'x' is not a moment", "line 4: 'y' is not a moment"])
+    check("faults of a plan are an alarm", "warning: 2 faults in the plan of windows: line 3: 'x' is not a moment" in alarms(tab))
+    shown(0, faults=["line 3: 'x' is not a moment"])
+    check("one fault of a plan", "warning: 1 fault in the plan of windows: line 3: 'x' is not a moment" in alarms(tab))
+    tab.value("acknowledgeAll([...memory.raised.keys()]); turns.clear(); asksPlan = false; plan = { windows: [], faults: [] }")
+
+
+def plan_of(*windows):
+    """The text of a plan, of windows by their entity, and when they begin and end, in seconds from now."""
+    moment = lambda seconds: time.strftime("%Y-%m-%dT%H:%M:%SZ", time.gmtime(time.time() + seconds))
+    return "".join(f"{moment(begin)} {moment(end)} {remote} {rate}\n" for remote, begin, end, rate in windows)
+
+
+def planned(tab):
+    """A console with a plan: the page shows it, its faults, and what it says once it has changed."""
+    path, passed, port = os.path.join(folder.name, "plan"), os.path.join(folder.name, "passed"), free_port()
+    write = lambda text: open(path, "w", encoding="utf-8").write(text)
+    write(plan_of((5, -600, 600, ""), (5, 3_600, 7_200, "8000"), (7, 1_800, 2_400, "off")))
+    start(sys.executable, os.path.join(here, "fake_station.py"), passed)
+    wait_for(lambda: os.path.exists(passed))
+    start(web, "--control", passed, "--listen", f"127.0.0.1:{port}", "--windows", path)
+    check("a plan: the console", wait_for(lambda: b"cfdp_up 1" in get(port, "/metrics")))
+    tab.call("Page.navigate", url=f"http://127.0.0.1:{port}/")
+    check("a plan: what comes", wait_for(lambda: " 1 window to come." in (words_of_pass(tab, "5") or "") and "without a limit" in (words_of_pass(tab, "7") or "")))
+    check("a plan: its bars", len(bars_of(tab, "5", "planned")) == 2 and len(bars_of(tab, "7", "planned")) == 1)
+    write("# nothing but\na fault\n")
+    check("a plan: a fault", wait_for(lambda: tab.text("plan-faults") == "line 2: 'a' begins a line with fewer than three words: FROM UNTIL ENTITY [RATE]"
+                                     and any("1 fault in the plan" in one for one in alarms(tab))))
+    write(plan_of((7, 60, 120, "")))
+    check("a plan: another one", wait_for(lambda: tab.text("plan-faults") == "" and " 1 window to come." in (words_of_pass(tab, "7") or "") and bars_of(tab, "5", "planned") == []))
+    os.unlink(path)
+    check("a plan: none any more", wait_for(lambda: tab.text("plan-faults") == f"{path}: no such file"))
+    no_faults(tab)
 
 
 # What stands at an axis up to such a value.
@@ -763,6 +849,7 @@ def main():
     command_line(tab)
     type_it(tab)
     goes(tab, station)
+    planned(tab)
     counted(tab)
     by_hand(tab)
     if picture:
@@ -780,10 +867,13 @@ def take_picture(tab):
           "--recorded", "7,0,0", "--counters", "--traffic", "6000")
     wait_for(lambda: os.path.exists(station))
     operator = Client(station)
+    passing = os.path.join(folder.name, "passing")
+    with open(passing, "w", encoding="utf-8") as file:
+        file.write(plan_of((5, -600, 600, "6000"), (5, 5_400, 6_600, "6000"), (5, 10_800, 12_000, "12000"), (5, 27_000, 28_200, "6000"), (7, 14_400, 28_800, "")))
     for line in ("release 5 600", "send ops 2 5 plan.bin plan.bin", "hold 7", "send ops 2 7 plan.bin in/plan.bin"):
         operator.ask(line)
     port = free_port()
-    start(web, "--control", station, "--listen", f"127.0.0.1:{port}", "--commands", "--token-file", os.path.join(folder.name, "token"))
+    start(web, "--control", station, "--listen", f"127.0.0.1:{port}", "--commands", "--token-file", os.path.join(folder.name, "token"), "--windows", passing)
     wait_for(lambda: b"cfdp_up 1" in get(port, "/metrics"))
     tab.call("Page.navigate", url=f"http://127.0.0.1:{port}/")
     wait_for(lambda: "file 4.bin" in tab.text("active"))

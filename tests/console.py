@@ -23,10 +23,10 @@ TOKEN = "a-token-of-the-test"
 class Console:
     """A running console, and requests to it."""
 
-    def __init__(self, control):
+    def __init__(self, control, *more):
         pathlib.Path("token").write_text(TOKEN + "\n")
         self.port = free_port()
-        words = [WEB, "--control", control, "--listen", f"127.0.0.1:{self.port}", "--commands", "--token-file", "token"]
+        words = [WEB, "--control", control, "--listen", f"127.0.0.1:{self.port}", "--commands", "--token-file", "token", *more]
         self.run = subprocess.Popen(words, stdout=subprocess.PIPE, stderr=subprocess.PIPE)
         until(lambda: self.ask("GET", "/healthz")[0] == 200, "the console")
 
@@ -158,6 +158,7 @@ def work(console, one, two):
     want([line for line in ("cfdp_up 1", 'cfdp_remote_held{remote="2"} 0', 'cfdp_transactions{state="ended"} 1') if line not in metrics], [])
     check_members(console)
     check_watching(client)
+    check_plan(one)
     pathlib.Path("big").mkdir()
     pathlib.Path("big/file").write_bytes(bytes(600_000))
     want(console.command(f"send alice 2 2 {os.path.abspath('big/file')} big as file")[0].split()[0], "queued")
@@ -176,6 +177,32 @@ def check_watching(client):
         want(console.command("hold 2"), ["refused NotHere"])
         want([line["held"] for line in client.status() if line["kind"] == "remote"], [False])
         want("cfdp_up 1" in console.ask("GET", "/metrics")[1].decode(), True)
+    finally:
+        console.close()
+
+
+def check_plan(one):
+    """A console with a plan has its windows, or its faults, and reads it again once it has changed."""
+    plan = pathlib.Path("plan")
+    plan.write_text("# a contact plan\n2026-12-01T10:00:00Z 2026-12-01T10:08:00Z 2 8000\n2026-12-01T12:00:00Z 2026-12-01T12:08:00Z 18446744073709551615 off\n")
+    console = Console(one.path, "--windows", "plan")
+    try:
+        given = lambda: json.loads(console.ask("GET", "/windows.json")[1])
+        begin = 1_796_119_200_000
+        want(given(), {"windows": [{"remote": "2", "from": begin, "until": begin + 480_000, "rate": 8000},
+                                   {"remote": "18446744073709551615", "from": begin + 7_200_000, "until": begin + 7_680_000, "rate": "off"}], "faults": []})
+        plan.write_text("2026-12-01T10:00:00Z 2026-12-01T10:08:00Z 2\n2026-12-01T10:00:00Z \"\\\n\n2026-12-01T10:07:59Z 2026-12-01T10:09:00Z 2\n")
+        want(given(), {"windows": [], "faults": ["line 2: '2026-12-01T10:00:00Z' begins a line with fewer than three words: FROM UNTIL ENTITY [RATE]",
+                                                 "line 4: '2026-12-01T10:07:59Z' begins before the window of line 1 has ended"]})
+        plan.write_text("2026-12-01T10:00:00Z 2026-12-01T10:08:00Z 2\n")
+        want(given()["windows"], [{"remote": "2", "from": begin, "until": begin + 480_000}])
+        plan.unlink()
+        want(given(), {"windows": [], "faults": ["plan: no such file"]})
+    finally:
+        console.close()
+    console = Console(one.path)
+    try:
+        want(json.loads(console.ask("GET", "/windows.json")[1]), {"windows": [], "faults": []})
     finally:
         console.close()
 

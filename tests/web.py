@@ -143,6 +143,8 @@ def routes(port):
     heads = re.findall(r"^# TYPE (\S+)", text, re.M)
     check("/metrics, /status.json: nothing is counted", heads[-1] == "cfdp_hindered_files" and "delivered" not in document)
     check("/metrics: each family once, with help", len(heads) == len(set(heads)) and all(f"# HELP {head} " in text for head in heads))
+    status, headers, body = ask(port, "/windows.json")
+    check("/windows.json: no plan", status == 200 and headers["content-type"] == "application/json" and json.loads(body) == {"windows": [], "faults": []})
     check("/healthz: 200", ask(port, "/healthz")[0] == 200)
     found = wait_for(lambda: b"data: " in ask(port, "/events")[2])
     status, headers, body = ask(port, "/events")

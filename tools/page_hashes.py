@@ -4,7 +4,7 @@ import base64, hashlib, os, re
 
 here = os.path.join(os.path.dirname(os.path.abspath(__file__)), "..", "crates", "web_pages", "src")
 # the parts of the page, in their order
-PARTS = ("head", "tables", "live", "commands")
+PARTS = ("head", "tables", "live", "passes", "commands")
 
 
 def part(name):

@@ -71,7 +71,7 @@ fn serve<
     };
     let _said = greet(output, words, &token);
     let settings = Settings { names, token };
-    let watch = Watch::new(rt, rt.alloc(), words.control);
+    let watch = Watch::new(rt, rt.alloc(), words.control, words.windows);
     run_console(rt, rt.alloc(), keys, &listener, &settings, &watch);
     fail(errors, "start fault")
 }

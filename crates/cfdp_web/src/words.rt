@@ -22,6 +22,8 @@ pub(crate) struct Words<'a> {
     pub(crate) commands: bool,
     /// The path of the file with the token.
     pub(crate) token_file: Option<&'a str>,
+    /// The path of the plan of windows.
+    pub(crate) windows: Option<&'a str>,
 }
 
 /// Why a command line doesn't start the console.
@@ -37,6 +39,7 @@ pub(crate) enum WordsFault {
 pub(crate) const HELP: &str = "Shows a CFDP server in the browser, over its control socket.
 
 Usage: cfdp_web --control PATH [--listen ADDR] [--name HOST:PORT] [--commands] [--token-file FILE]
+                [--windows PLAN]
 
   --control PATH     the server's control socket
   --listen ADDR      where the console listens: A.B.C.D:PORT (default: 127.0.0.1:4580)
@@ -44,16 +47,18 @@ Usage: cfdp_web --control PATH [--listen ADDR] [--name HOST:PORT] [--commands] [
                      localhost and the console's port)
   --commands         also takes commands, from anyone with the token
   --token-file FILE  a file whose first line is the token (default: a new token, which is printed)
+  --windows PLAN     a plan of when links are open, as cfdp_ctl windows has it: the page shows it
   --help             prints this, and ends
   --version          prints the version, and ends
 
-The page is at http://ADDR/. Programs find /status.json, /events, /metrics and /healthz there. The
-console runs until it is stopped. Status 1: a fault of the program. 2: the command line is wrong.
+The page is at http://ADDR/. Programs find /status.json, /events, /windows.json, /metrics and
+/healthz there. The console runs until it is stopped. Status 1: a fault of the program. 2: the command
+line is wrong.
 ";
 
 /// What is printed if the command line is wrong.
 pub(crate) const USAGE_LINE: &str =
-    "cfdp_web: usage: cfdp_web --control PATH [--listen ADDR] [--name HOST:PORT] [--commands] [--token-file FILE]\n";
+    "cfdp_web: usage: cfdp_web --control PATH [--listen ADDR] [--name HOST:PORT] [--commands] [--token-file FILE] [--windows PLAN]\n";
 
 /// What `--version` prints.
 pub(crate) const VERSION_LINE: &str = versioned!("cfdp_web ", "\n");
@@ -98,7 +103,8 @@ fn command<'a>(alloc: Global) -> Result<Command<'a>, AllocError> {
                 .long("commands")
                 .action(ArgAction::SetTrue),
         )?
-        .arg(valued(alloc, "token-file"))?;
+        .arg(valued(alloc, "token-file"))?
+        .arg(valued(alloc, "windows"))?;
     Ok(command)
 }
 
@@ -115,6 +121,7 @@ fn words_in<'a>(matches: &ArgMatches<'a>) -> Option<Words<'a>> {
         name: matches.get_str("name"),
         commands: matches.get_flag("commands"),
         token_file: matches.get_str("token-file"),
+        windows: matches.get_str("windows"),
     };
     if words.control.is_empty() || (words.token_file.is_some() && !words.commands) {
         return None;

@@ -3,7 +3,7 @@ use Rattle.std.specs.Prelude.{◌≡◌, ℕ, List, Option, Some, None, codes}
 use Rattle.web_lines.specs.Document.{IsDocument}
 use Rattle.web_lines.specs.Metrics.{IsMetrics, up_text}
 use Rattle.web_pages.specs.declared.route.Route.{Route}
-use Rattle.web_pages.specs.declared.route.Route.TheVariants.{Page, Status, Events, Metrics, Health, Command}
+use Rattle.web_pages.specs.declared.route.Route.TheVariants.{Page, Status, Events, Windows, Metrics, Health, Command}
 use Rattle.web_pages.specs.declared.source.Found.{Found}
 use Rattle.web_pages.specs.declared.source.Found.TheVariants.{Here, Away}
 
@@ -13,6 +13,7 @@ IsShownHere Metrics status text = IsMetrics status text
 IsShownHere Status status text = IsDocument status text
 IsShownHere Page status text = text ≡ codes "ok\n"
 IsShownHere Events status text = text ≡ codes "ok\n"
+IsShownHere Windows status text = text ≡ codes "ok\n"
 IsShownHere Health status text = text ≡ codes "ok\n"
 IsShownHere Command status text = text ≡ codes "ok\n"
 
@@ -26,6 +27,7 @@ IsShownAway Metrics text found = (found ≡ Here) × (text ≡ up_text 0)
 IsShownAway Status text found = IsNoAnswer text found
 IsShownAway Page text found = IsNoAnswer text found
 IsShownAway Events text found = IsNoAnswer text found
+IsShownAway Windows text found = IsNoAnswer text found
 IsShownAway Health text found = IsNoAnswer text found
 IsShownAway Command text found = IsNoAnswer text found
 
@@ -34,9 +36,10 @@ abbrev pub IsShown : Route → Option (List ℕ) → List ℕ → Found → Type
 IsShown route None text found = IsShownAway route text found
 IsShown route (Some status) text found = (found ≡ Here) × IsShownHere route status text
 
--- what a visitor may see at a route, for some status; events don't say whether the station answers
+-- what a visitor may see at a route, for some status; events and the plan don't say whether the station answers
 abbrev pub IsSeen : Route → Found → List ℕ → Type 0
 IsSeen Events found text = found ≡ Here
+IsSeen Windows found text = found ≡ Here
 IsSeen Page found text = (status : Option (List ℕ)) × IsShown Page status text found
 IsSeen Status found text = (status : Option (List ℕ)) × IsShown Status status text found
 IsSeen Metrics found text = (status : Option (List ℕ)) × IsShown Metrics status text found

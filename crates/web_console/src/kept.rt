@@ -1,4 +1,5 @@
-//! The last reply to `status`.
+//! The last reply to `status`, and the plan as it was read last.
+use crate::plan::Mark;
 use std::alloc::Global;
 use std::sync::Arc;
 use std::time::Duration;
@@ -59,5 +60,40 @@ impl Kept {
         self.at = at;
         self.lines = lines;
         self.is_asking = false;
+    }
+}
+
+/// The plan as it was read last.
+#[derive(Drop)]
+pub(crate) struct KeptPlan {
+    // how its file was then
+    mark: Option<Mark>,
+    json: Lines,
+}
+
+impl KeptPlan {
+    /// Nothing was read yet.
+    pub(crate) fn new() -> KeptPlan {
+        KeptPlan {
+            mark: None,
+            json: None,
+        }
+    }
+
+    /// The plan, if its file is as it was.
+    pub(crate) fn json(&self, mark: Option<Mark>) -> Lines {
+        if mark.is_none() || self.mark != mark {
+            return None;
+        }
+        match &self.json {
+            Some(json) => Arc::try_clone(json).ok(),
+            None => None,
+        }
+    }
+
+    /// Keeps the plan, as it was read from a file.
+    pub(crate) fn keep(&mut self, mark: Option<Mark>, json: Lines) {
+        self.mark = mark;
+        self.json = json;
     }
 }

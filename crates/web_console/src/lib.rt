@@ -6,6 +6,7 @@ mod doors;
 mod events;
 mod kept;
 mod lobby;
+mod plan;
 mod visit;
 mod visits;
 mod watch;

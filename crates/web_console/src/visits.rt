@@ -5,6 +5,7 @@ use crate::watch::Watch;
 use std::alloc::Global;
 use std::hash::RandomState;
 use std::net::{Net, TcpListener, TcpStream};
+use std::rt::Files;
 use std::sync::Wait;
 use std::thread;
 use std::thread::Threads;
@@ -19,7 +20,7 @@ pub const VISITORS: usize = 32;
 /// started, or the system has no pair of sockets.
 pub fn run_console<
     'x,
-    R: Threads + Wait + Clock + Net<Listener = TcpListener, Stream = TcpStream> + Sync,
+    R: Threads + Wait + Clock + Net<Listener = TcpListener, Stream = TcpStream> + Files + Sync,
 >(
     rt: &'x R,
     alloc: Global,
@@ -49,7 +50,7 @@ pub fn run_console<
 }
 
 // Serves one visit after another, as their octets come.
-fn serve_visits<R: Wait + Clock + Net<Listener = TcpListener, Stream = TcpStream>>(
+fn serve_visits<R: Wait + Clock + Net<Listener = TcpListener, Stream = TcpStream> + Files>(
     rt: &R,
     alloc: Global,
     lobby: &Lobby,

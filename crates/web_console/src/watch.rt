@@ -5,10 +5,12 @@ ghost use Rattle.web_console.specs.Shown.{IsSeen, IsShown, IsShownAway, IsShownH
 
 use crate::asked::Asked;
 use crate::events::Events;
-use crate::kept::{Kept, Lines};
+use crate::kept::{Kept, KeptPlan, Lines};
+use crate::plan::{Mark, mark_at, no_plan, plan_json};
 use station_client::{Station, StationFault};
 use std::alloc::{AllocError, Global};
 use std::net::Net;
+use std::rt::Files;
 use std::sync::{Arc, Condvar, CondvarTimeouts, Mutex, Wait};
 use std::thread;
 use std::time::{Clock, Duration};
@@ -34,21 +36,26 @@ pub struct Watch<'a, R> {
     rt: &'a R,
     alloc: Global,
     path: &'a str,
+    /// The path of the plan, if there is one.
+    plan: Option<&'a str>,
     kept: Mutex<Kept>,
     answered: Condvar,
     events: Mutex<Events>,
+    kept_plan: Mutex<KeptPlan>,
 }
 
-impl<'a, R: Wait + Net + Clock> Watch<'a, R> {
-    /// Nothing is known so far of the station with this control socket.
-    pub fn new(rt: &'a R, alloc: Global, path: &'a str) -> Watch<'a, R> {
+impl<'a, R: Wait + Net + Clock + Files> Watch<'a, R> {
+    /// Nothing is known so far of the station with this control socket, and of the plan at this path.
+    pub fn new(rt: &'a R, alloc: Global, path: &'a str, plan: Option<&'a str>) -> Watch<'a, R> {
         Watch {
             rt,
             alloc,
             path,
+            plan,
             kept: Mutex::new(Kept::new()),
             answered: Condvar::new(),
             events: Mutex::new(Events::new(alloc)),
+            kept_plan: Mutex::new(KeptPlan::new()),
         }
     }
 
@@ -141,6 +148,26 @@ impl<'a, R: Wait + Net + Clock> Watch<'a, R> {
         None
     }
 
+    // The plan as JSON; read anew if its file has changed.
+    fn plan_json(&self) -> Result<Vec<u8>, AllocError> {
+        let Some(path) = self.plan else {
+            return no_plan(self.alloc);
+        };
+        let mark = mark_at(self.rt, path);
+        if let Some(json) = self.kept_json(mark) {
+            return Vec::from_slice(self.alloc, json.as_slice());
+        }
+        let json = plan_json(self.rt, self.alloc, path)?;
+        let copy = Arc::new(self.alloc, Vec::from_slice(self.alloc, json.as_slice())?).ok();
+        self.kept_plan.lock(self.rt).keep(mark, copy);
+        Ok(json)
+    }
+
+    // The plan that was read last, if its file is as it was.
+    fn kept_json(&self, mark: Option<Mark>) -> Lines {
+        self.kept_plan.lock(self.rt).json(mark)
+    }
+
     // Keeps an answer, and returns it.
     fn keep_status(&self, lines: Lines) -> Lines {
         let now = self.rt.monotonic().ok();
@@ -191,7 +218,7 @@ fn here_text(alloc: Global, route: Route, lines: &str) -> Result<Vec<u8>, AllocE
     match route {
         Route::Metrics => to_metrics(alloc, lines),
         Route::Status => to_document(alloc, lines),
-        Route::Page | Route::Events | Route::Health | Route::Command => {
+        Route::Page | Route::Events | Route::Windows | Route::Health | Route::Command => {
             Vec::from_slice(alloc, b"ok\n".as_slice())
         }
     }
@@ -203,14 +230,19 @@ fn away_text(alloc: Global, route: Route) -> Result<(Found, Vec<u8>), AllocError
 {
     match route {
         Route::Metrics => Ok((Found::Here, no_metrics(alloc)?)),
-        Route::Status | Route::Page | Route::Events | Route::Health | Route::Command => {
+        Route::Status
+        | Route::Page
+        | Route::Events
+        | Route::Windows
+        | Route::Health
+        | Route::Command => {
             let text = Vec::from_slice(alloc, b"the station does not answer\n".as_slice())?;
             Ok((Found::Away, text))
         }
     }
 }
 
-impl<'a, R: Wait + Net + Clock> Source for Watch<'a, R> {
+impl<'a, R: Wait + Net + Clock + Files> Source for Watch<'a, R> {
     // What a route may show, whatever the station answered.
     ghost shows = { λ watch route last found text. IsSeen route found text };
 
@@ -220,6 +252,9 @@ impl<'a, R: Wait + Net + Clock> Source for Watch<'a, R> {
     fn fill(&self, route: Route, last: &[u8], text: &mut Vec<u8>) -> Result<Found, AllocError> {
         if route == Route::Events {
             self.events.lock(self.rt).append_to(last, text)?;
+            Ok(Found::Here)
+        } else if route == Route::Windows {
+            text.extend_from_slice(self.plan_json()?.as_slice())?;
             Ok(Found::Here)
         } else {
             let lines = self.status();

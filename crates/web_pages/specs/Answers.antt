@@ -9,7 +9,7 @@ use Rattle.web_pages.specs.Guard.{HasMethod, HasPlainTarget, HasToken, IsFromOth
 use Rattle.web_pages.specs.Headers.{headers_for, kind_text}
 use Rattle.web_pages.specs.Routes.{asked_route}
 use Rattle.web_pages.specs.declared.route.Route.{Route}
-use Rattle.web_pages.specs.declared.route.Route.TheVariants.{Page, Status, Events, Metrics, Health, Command}
+use Rattle.web_pages.specs.declared.route.Route.TheVariants.{Page, Status, Events, Windows, Metrics, Health, Command}
 use Rattle.web_pages.specs.declared.source.Found.{Found}
 use Rattle.web_pages.specs.declared.source.Found.TheVariants.{Here, Away}
 
@@ -23,6 +23,7 @@ methods_of Command = codes "POST"
 methods_of Page = codes "GET, HEAD"
 methods_of Status = codes "GET, HEAD"
 methods_of Events = codes "GET, HEAD"
+methods_of Windows = codes "GET, HEAD"
 methods_of Metrics = codes "GET, HEAD"
 methods_of Health = codes "GET, HEAD"
 
@@ -74,6 +75,7 @@ IsReadAt policy page shows request Page response = IsPage policy page response
 IsReadAt policy page shows request Command response = IsWrongMethod Command response
 IsReadAt policy page shows request Status response = IsShown policy shows request Status response
 IsReadAt policy page shows request Events response = IsShown policy shows request Events response
+IsReadAt policy page shows request Windows response = IsShown policy shows request Windows response
 IsReadAt policy page shows request Metrics response = IsShown policy shows request Metrics response
 IsReadAt policy page shows request Health response = IsShown policy shows request Health response
 
@@ -90,6 +92,7 @@ IsPostedAt policy token tells request Command response = IsObeyed policy token t
 IsPostedAt policy token tells request Page response = IsWrongMethod Page response
 IsPostedAt policy token tells request Status response = IsWrongMethod Status response
 IsPostedAt policy token tells request Events response = IsWrongMethod Events response
+IsPostedAt policy token tells request Windows response = IsWrongMethod Windows response
 IsPostedAt policy token tells request Metrics response = IsWrongMethod Metrics response
 IsPostedAt policy token tells request Health response = IsWrongMethod Health response
 

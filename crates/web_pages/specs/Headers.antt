@@ -1,13 +1,14 @@
 -- Meaning. The headers of what is served.
 use Rattle.std.specs.Prelude.{ℕ, List, [], ◌∷◌, codes}
 use Rattle.web_pages.specs.declared.route.Route.{Route}
-use Rattle.web_pages.specs.declared.route.Route.TheVariants.{Page, Status, Events, Metrics, Health, Command}
+use Rattle.web_pages.specs.declared.route.Route.TheVariants.{Page, Status, Events, Windows, Metrics, Health, Command}
 
 -- what kind of text is at a route
 abbrev pub kind_text : Route → List ℕ
 kind_text Page = codes "text/html; charset=utf-8"
 kind_text Status = codes "application/json"
 kind_text Events = codes "text/event-stream"
+kind_text Windows = codes "application/json"
 kind_text Metrics = codes "text/plain; version=0.0.4; charset=utf-8"
 kind_text Health = codes "text/plain; charset=utf-8"
 kind_text Command = codes "text/plain; charset=utf-8"

@@ -14,6 +14,7 @@ use crate::headers::{POLICY, add_headers};
 use crate::page::commands::COMMANDS;
 use crate::page::head::HEAD;
 use crate::page::live::LIVE;
+use crate::page::passes::PASSES;
 use crate::page::tables::TABLES;
 use crate::permit::{Permit, permit_of};
 use crate::route::Route;
@@ -155,22 +156,23 @@ fn show_page(response: &mut Response) -> Result<(), AllocError>
     requires { IsBlank response.old }
     ensures { OnOk result (IsPage POLICY.now whole_page response.new) }
 {
-    show_parts(response, HEAD, TABLES, LIVE, COMMANDS)
+    show_parts(response, HEAD, TABLES, LIVE, PASSES, COMMANDS)
 }
 
-// Answers with a page in four parts.
+// Answers with a page in five parts.
 fn show_parts(
     response: &mut Response,
     first: &str,
     second: &str,
     third: &str,
+    fourth: &str,
     last: &str,
 ) -> Result<(), AllocError>
     requires { IsBlank response.old }
-    ensures { OnOk result (IsPage POLICY.now (((first.now ++ second.now) ++ third.now) ++ last.now) response.new) }
+    ensures { OnOk result (IsPage POLICY.now ((((first.now ++ second.now) ++ third.now) ++ fourth.now) ++ last.now) response.new) }
 {
     add_headers(Route::Page, response)?;
-    put_parts(&mut response.body, first, second, third, last)
+    put_parts(&mut response.body, first, second, third, fourth, last)
 }
 
 // Adds the parts of a text to an empty body.
@@ -179,14 +181,16 @@ fn put_parts(
     first: &str,
     second: &str,
     third: &str,
+    fourth: &str,
     last: &str,
 ) -> Result<(), AllocError>
     requires { body.old.items ≡ [] }
-    ensures { OnOk result (body.new.items ≡ ((first.now ++ second.now) ++ third.now) ++ last.now) }
+    ensures { OnOk result (body.new.items ≡ (((first.now ++ second.now) ++ third.now) ++ fourth.now) ++ last.now) }
 {
     body.put_slice(first.as_bytes())?;
     body.put_slice(second.as_bytes())?;
     body.put_slice(third.as_bytes())?;
+    body.put_slice(fourth.as_bytes())?;
     body.put_slice(last.as_bytes())
 }
 

@@ -12,7 +12,7 @@ use std::alloc::AllocError;
 /// The content security policy: nothing comes from elsewhere, and of what is in the page only its own style and script
 /// are used, by their hashes.
 pub(crate) const POLICY: &str =
-    "default-src 'none'; style-src 'sha256-maNjdkct7LGEuRh4p02cCVHTjqzA1jJoP2xVwiyazwA='; script-src 'sha256-OJo8mymIy4lQlWivfMcMUluoi5X1XRcVtOKEwfLD9E8='; connect-src 'self'; base-uri 'none'; form-action 'none'; frame-ancestors 'none'";
+    "default-src 'none'; style-src 'sha256-gf3cq0kDFoC96Z2bwCYJq7cSQrk5CH1ojiVzdORX69c='; script-src 'sha256-/Z4EfWIo6BtinHEcvR13X+HNi4dSJEwKhHsLeCiL8xs='; connect-src 'self'; base-uri 'none'; form-action 'none'; frame-ancestors 'none'";
 
 /// Adds the headers of what is at a route.
 pub(crate) fn add_headers(route: Route, response: &mut Response) -> Result<(), AllocError>
@@ -44,7 +44,7 @@ fn kind_of(route: Route) -> HeaderValue
 {
     match route {
         Route::Page => HeaderValue::from_static("text/html; charset=utf-8"),
-        Route::Status => HeaderValue::from_static("application/json"),
+        Route::Status | Route::Windows => HeaderValue::from_static("application/json"),
         Route::Events => HeaderValue::from_static("text/event-stream"),
         Route::Metrics => HeaderValue::from_static("text/plain; version=0.0.4; charset=utf-8"),
         Route::Health | Route::Command => HeaderValue::from_static("text/plain; charset=utf-8"),

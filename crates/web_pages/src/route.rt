@@ -11,6 +11,8 @@ pub enum Route {
     Status,
     /// Events as server-sent events: `/events`.
     Events,
+    /// The plan of windows: `/windows.json`.
+    Windows,
     /// Numbers for Prometheus: `/metrics`.
     Metrics,
     /// Whether the station replies: `/healthz`.
@@ -28,6 +30,7 @@ impl Route {
             "/" => Some(Route::Page),
             "/status.json" => Some(Route::Status),
             "/events" => Some(Route::Events),
+            "/windows.json" => Some(Route::Windows),
             "/metrics" => Some(Route::Metrics),
             "/healthz" => Some(Route::Health),
             "/command" => Some(Route::Command),

@@ -81,7 +81,10 @@ function noteUnsent(e) {
 function note(e) {
   if (e.kind === "put") notePast(e, { role: "sender" });
   else if (e.kind === "unsent") noteUnsent(e);
-  else if (e.kind === "hold" && e.planned) plannedHolds.set(number(e, "id"), Date.parse(e.at));
+  else if (e.kind === "hold" || e.kind === "release") {
+    noteTurn(e);
+    if (e.planned) plannedHolds.set(number(e, "id"), Date.parse(e.at));
+  }
   else if (e.kind === "command" && e.answer === "ok") noteRate(String(e.words));
   else if (e.kind === "indication" && e.name === "Metadata-Recv") notePast(e, { role: "receiver", peer: e.source });
   else if (e.kind === "indication" && e.name === "Abandoned") notePast(e, { condition: e.condition, octets: e.progress, last: e.at });
@@ -358,8 +361,8 @@ at("token").addEventListener("change", () => {
   status();
 });
 at("token-form").addEventListener("submit", e => { e.preventDefault(); status(); });
-tick(); status().then(events);
-setInterval(status, 1000); setInterval(events, 1000);
+tick(); askPlan(); status().then(events);
+setInterval(status, 1000); setInterval(events, 1000); setInterval(askPlan, 5000);
 </script>
 </body>
 </html>

@@ -50,6 +50,8 @@ figure { margin: 0; min-width: 0; } figcaption { color: var(--dim); min-height: 
 figure svg { display: block; width: 100%; height: 140px; border: 1px solid var(--line); border-radius: 4px; }
 figure text { font: 11px system-ui, sans-serif; fill: var(--dim); } figure .grid { fill: none; stroke: var(--line); }
 .way { fill: none; stroke-width: 1.5px; } .way.in { stroke: var(--accent); } .way.out { stroke: var(--warn); stroke-dasharray: 5 3; }
+.passes { height: 58px; border: 0; border-radius: 0; } .pass { stroke-width: 1.5px; } .pass.was { fill: var(--dim); } .pass.open { fill: var(--accent); } .pass.planned { fill: none; stroke: var(--text); } .pass.here { stroke: var(--bad); stroke-width: 2px; }
+#passes { display: grid; gap: 4px 24px; grid-template-columns: repeat(auto-fit, minmax(min(100%, 26rem), 1fr)); } #passes figcaption { min-height: 1.45em; } #plan-faults { margin: 6px 0; overflow-wrap: anywhere; } #plan-faults:empty { display: none; }
 .way.limit { stroke: var(--bad); stroke-dasharray: 1 3; stroke-width: 2px; } figure text.limit { fill: var(--bad); }
 .bar { display: flex; flex-wrap: wrap; gap: 8px 16px; align-items: center; margin: 6px 0; }
 input, select, textarea, button { font: inherit; color: inherit; background: var(--page); border: 1px solid var(--line); border-radius: 4px; padding: 2px 8px; max-width: 100%; }
@@ -103,6 +105,11 @@ footer { margin: 24px auto; padding-bottom: 6rem; color: var(--dim); }
 <section aria-labelledby="h-charts"><h2 id="h-charts">Octets each way, the last ten minutes</h2>
 <div id="charts"></div>
 <p id="charts-note" class="quiet"></p></section>
+<section id="s-passes" class="hidden" aria-labelledby="h-passes"><h2 id="h-passes">Passes</h2>
+<div class="bar"><label>hours shown <select id="span"><option>3</option><option selected>12</option><option>72</option></select></label>
+<span class="quiet">Filled: the link was or is open. Outlined: planned. The upright line: now, in UTC.</span></div>
+<ul id="plan-faults" class="bad"></ul>
+<div id="passes"></div></section>
 <div class="columns">
 <section class="wide" aria-labelledby="h-remotes"><h2 id="h-remotes">Remote entities</h2>
 <div class="scroll" tabindex="0" role="region" aria-labelledby="h-remotes"><table id="remotes"></table></div></section>
@@ -153,7 +160,7 @@ footer { margin: 24px auto; padding-bottom: 6rem; color: var(--dim); }
 <button>Do</button>
 </form></details></section>
 </main>
-<footer>For programs: /status.json, /events, /metrics, /healthz</footer>
+<footer>For programs: /status.json, /events, /windows.json, /metrics, /healthz</footer>
 <div id="menu" popover role="menu"></div>
 <div id="dock">
 <ul id="choices" class="hidden" role="listbox" aria-label="completions"></ul>

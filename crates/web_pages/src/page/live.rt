@@ -80,7 +80,7 @@ function noteWindows(all) {
 }
 function isPlanned(r) {
   const id = number(r, "id"), from = Date.parse(r.held_since);
-  return r.held_since === memory.run || from >= memory.windows.get(id) - 1000 || Math.abs(from - plannedHolds.get(id)) < 1000;
+  return isOutside(id) || r.held_since === memory.run || from >= memory.windows.get(id) - 1000 || Math.abs(from - plannedHolds.get(id)) < 1000;
 }
 // The limit of what leaves for an entity, as far as the page saw the command that set it: its own, or that of all links.
 const limitOf = id => memory.limits.has(id) ? memory.limits.get(id) : memory.limits.get("all");
@@ -236,7 +236,7 @@ function failAlarms(all) {
 }
 // What is wrong, by a status.
 function alarmsOf(all, log, recorder) {
-  const found = [...linkAlarms(all), ...storeAlarms(all), ...laneAlarms(all), ...failAlarms(all)];
+  const found = [...linkAlarms(all), ...planAlarms(), ...storeAlarms(all), ...laneAlarms(all), ...failAlarms(all)];
   if (log && log.failing) found.push(alarm("log", CRITICAL, "the log can't be written, " + many(log.lost, "event", "events") + " lost"));
   for (const u of all.users) if (u.waiting >= u.capacity) found.push(alarm("queue " + u.name, CRITICAL, "the queue of " + u.name + " is full"));
   if (recorder && recorder.failed > 0) found.push(alarm("recordings", WARNING, many(recorder.failed, "recording failed", "recordings failed"), 0, memory.run + " " + recorder.failed));
@@ -367,7 +367,7 @@ function show(all) {
   recognize(entity);
   noteWindows(all); noteFails(c); count(all); countLinks(all);
   showTables(all);
-  drawCharts(all, c);
+  drawCharts(all, c); drawPasses(all);
   write("title", "CFDP entity " + number(entity, "id"));
   raise(alarmsOf(all, log, recorder));
   offerAll(all);
