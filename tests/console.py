@@ -191,8 +191,8 @@ def check_plan(one):
         begin = 1_796_119_200_000
         want(given(), {"windows": [{"remote": "2", "from": begin, "until": begin + 480_000, "rate": 8000},
                                    {"remote": "18446744073709551615", "from": begin + 7_200_000, "until": begin + 7_680_000, "rate": "off"}], "faults": []})
-        plan.write_text("2026-12-01T10:00:00Z 2026-12-01T10:08:00Z 2\n2026-12-01T10:00:00Z \"\\\n\n2026-12-01T10:07:59Z 2026-12-01T10:09:00Z 2\n")
-        want(given(), {"windows": [], "faults": ["line 2: '2026-12-01T10:00:00Z' begins a line with fewer than three words: FROM UNTIL ENTITY [RATE]",
+        plan.write_text('2026-12-01T10:00:00Z 2026-12-01T10:08:00Z 2\n"\\ 2026-12-01T10:08:00Z 2\n\n2026-12-01T10:07:59Z 2026-12-01T10:09:00Z 2\n')
+        want(given(), {"windows": [], "faults": ["line 2: '\"\\' is not a moment in UTC, such as 2026-12-01T10:00:00Z",
                                                  "line 4: '2026-12-01T10:07:59Z' begins before the window of line 1 has ended"]})
         plan.write_text("2026-12-01T10:00:00Z 2026-12-01T10:08:00Z 2\n")
         want(given()["windows"], [{"remote": "2", "from": begin, "until": begin + 480_000}])
