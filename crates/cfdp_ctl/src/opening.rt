@@ -186,7 +186,10 @@ where
     let answer = line.ask(rt, command.as_bytes())?;
     let answer = first_line(answer.as_slice());
     let is_taken = exit_status(outcome_of(answer)) == 0;
-    let (moment, answer) = (moment_text(alloc, now)?, String::from_utf8_lossy(alloc, answer)?);
+    let (moment, answer) = (
+        moment_text(alloc, now)?,
+        String::from_utf8_lossy(alloc, answer)?,
+    );
     let text = format!(in alloc; "{moment} {command}: {answer}")?;
     let mut page = Page::new(alloc);
     page.push_line(

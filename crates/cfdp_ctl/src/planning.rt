@@ -6,10 +6,10 @@ use ctl_views::{Page, Tone};
 use ctl_windows::{Fault, Plan, Window, fault_text, read_plan, row_head, row_text};
 use std::alloc::Global;
 use std::fs::File;
+use std::io;
 use std::io::{Read, Write};
 use std::rt::Files;
 use std::time::Clock;
-use std::io;
 
 // The most octets of a plan.
 const PLAN_OCTETS: u64 = 16_777_216;
@@ -36,7 +36,11 @@ where
     let text = String::from_utf8_lossy(alloc, octets.as_slice())?;
     let Plan { windows, faults } = read_plan(alloc, text.as_str())?;
     print_faults(alloc, screen, path, faults.as_slice())?;
-    Ok(if faults.is_empty() { Ok(windows) } else { Err(2) })
+    Ok(if faults.is_empty() {
+        Ok(windows)
+    } else {
+        Err(2)
+    })
 }
 
 fn read_file<R: Files>(rt: &R, alloc: Global, path: &str) -> io::Result<Vec<u8>> {

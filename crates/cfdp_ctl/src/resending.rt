@@ -174,7 +174,11 @@ fn learn_from_log<R: Files>(
     let mut line = Vec::new(alloc);
     for _ in 0..u64::MAX {
         line.clear();
-        if (&mut reader).take(LINE_OCTETS).read_until(b'\n', &mut line)? == 0 {
+        if (&mut reader)
+            .take(LINE_OCTETS)
+            .read_until(b'\n', &mut line)?
+            == 0
+        {
             break;
         }
         let text = String::from_utf8_lossy(alloc, line.as_slice())?;
@@ -243,7 +247,8 @@ fn words_of(verdict: Verdict) -> &'static str {
         Verdict::Unknown =>
             "its file isn't known: neither the server's last events nor a log (--log FILE) has its put",
         Verdict::Gone => "the file is gone",
-        Verdict::Changed => "the file changed since it was sent; send puts it into the outbox as it is now",
+        Verdict::Changed =>
+            "the file changed since it was sent; send puts it into the outbox as it is now",
     }
 }
 

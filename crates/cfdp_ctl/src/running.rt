@@ -232,7 +232,14 @@ where
         return match windows_at(rt, alloc, screen, task.plan)? {
             Ok(windows) => {
                 let mut line = Line::open(rt, alloc, path, words.patience)?;
-                open_by(rt, alloc, screen, &mut line, (path, task.plan), windows.as_slice())
+                open_by(
+                    rt,
+                    alloc,
+                    screen,
+                    &mut line,
+                    (path, task.plan),
+                    windows.as_slice(),
+                )
             }
             Err(status) => Ok(status),
         };

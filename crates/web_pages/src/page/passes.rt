@@ -1,7 +1,8 @@
 //! The page's script: passes on a line of time.
 
 /// The third part of the script.
-pub(crate) const PASSES: &str = r##"// The plan of windows as the console read it, and when links were held and released, as events told it.
+pub(crate) const PASSES: &str =
+    r##"// The plan of windows as the console read it, and when links were held and released, as events told it.
 let plan = { windows: [], faults: [] }, asksPlan = false;
 const turns = new Map(), MOST_TURNS = 512;
 function noteTurn(e) {
