@@ -23,7 +23,7 @@ SCENARIOS = [
     ("eof-first-rising", 16_384, 10, None),
     ("eof-first-falling", 16_384, 10, None),
     ("eof-first-mixed", 16_384, 10, None),
-    ("single-octets-falling", 30_000, 20, None),
+    ("single-octets-falling", 30_000, 12, None),
     ("prompts", 10_000, 10, None),
     ("naks", 1_000, 10, None),
     ("naks-of-octets", 1_000, 10, None),

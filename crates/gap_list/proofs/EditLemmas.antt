@@ -1,15 +1,15 @@
 -- Rising runs after a range was added or taken out.
 use Rattle.std.proofs.Common.{◌≡◌, ℕ, suc, ◌+◌, ◌-◌, ◌<◌, ◌≤◌, max, min, Bool, true, false, ◌&&◌, ◌||◌, not, nat_le, nat_lt, List, [], ◌∷◌, ◌++◌, length, get_or, take, drop, refl, ap, sym, ◌∙◌, arith, subst, ⊎_elim, add-zero, length-drop}
 use Rattle.std.specs.List.{All}
-use Rattle.std.proofs.lemmas.Bool.{cond_both, cases_lt, and_parts, or_from, leb-true, ltb-true, ltb-false}
+use Rattle.std.proofs.lemmas.Bool.{cond_both, cond-true, cond-false, cases_lt, and_parts, or_from, leb-true, ltb-true, ltb-false, le-leb, lt-leb}
 use Rattle.std.proofs.Math.Bool.{or-false}
 use Rattle.std.proofs.lemmas.Bool.Decides.{nat_tests}
-use Rattle.std.proofs.lemmas.List.{take-append-drop, drop_more, drop-drop, drop-take, get_or-drop, get_or-take, get_or_read, length-take-le, drop_at, take_at}
+use Rattle.std.proofs.lemmas.List.{take-append-drop, drop_more, drop-drop, drop-take, get_or-drop, get_or-take, get_or_read, get_or_default, length-take-le, drop_at, take_at}
 use Rattle.std.proofs.lemmas.List.Elements.{All-head, All-tail, All-same, All-take, All-drop, All-weaker}
 use Rattle.std.proofs.lemmas.List.Folds.{list_any-append}
 use Rattle.gap_list.specs.declared.run.Run.{Run}
 use Rattle.gap_list.specs.Runs.{is_within, in_runs, with_range, without_range, SameSet, IsRisingFrom}
-use Rattle.gap_list.specs.Places.{last_end, kept}
+use Rattle.gap_list.specs.Places.{end_or, start_or, last_end, kept}
 use Rattle.gap_list.proofs.RunLemmas.{IsRisingFrom-lower}
 use Rattle.gap_list.proofs.SearchLemmas.{last_end-rises, last_end-at, below_run}
 use Rattle.gap_list.proofs.RisingLemmas.{beyond, rising_front, rising_rest, rising_append, beyond_ends, past_ends, edges_rise}
@@ -18,10 +18,6 @@ use Rattle.gap_list.proofs.RisingLemmas.{beyond, rising_front, rising_rest, risi
 pub record IsAdded (old new : List Run) (start end : ℕ) : Type 0 where
   pub rising : IsRisingFrom 0 new
   pub added : SameSet (in_runs new) (with_range (in_runs old) start end)
-
-pub record IsRemoved (old new : List Run) (start end : ℕ) : Type 0 where
-  pub rising : IsRisingFrom 0 new
-  pub removed : SameSet (in_runs new) (without_range (in_runs old) start end)
 
 -- ---- ranges that touch
 
@@ -141,50 +137,6 @@ apart xs ys start end rising filled below above =
 pub no_offset : (start end i : ℕ) → end ≤ start → is_within start end i ≡ false
 no_offset start end i le = grind (arith, nat_tests)
 
--- runs that begin at or above an end don't have what is below
-before_starts : (end offset : ℕ) (runs : List Run) → offset < end → All (λ run. end ≤ run.start) runs → in_runs runs offset ≡ false
-before_starts end offset [] below above = refl
-before_starts end offset (run ∷ runs) below above =
-    let first : end ≤ run.start = All-head (λ (run : Run). end ≤ run.start) run runs above in
-    or_from (is_within run.start run.end offset) (in_runs runs offset)
-    (below_run run.start run.end offset (omega arith))
-    (before_starts end offset runs below (All-tail (λ (run : Run). end ≤ run.start) run runs above))
-
-cut_one : (low high start end i : ℕ) → start ≤ high → low < end → start < end
-    → (is_within low high i && not (is_within start end i)) ≡ (is_within low start i || is_within end high i)
-cut_one low high start end i a b c = grind (arith, nat_tests)
-
-and_or : (a b c : Bool) → ((a || b) && c) ≡ ((a && c) || (b && c))
-and_or true b true = refl
-and_or true true false = refl
-and_or true false false = refl
-and_or false b c = refl
-
--- of the runs that a range meets, what lies below it and what lies above
-cut_span : (run : Run) (runs : List Run) (low start end i : ℕ) → IsRisingFrom low (run ∷ runs) → start < end
-    → All (λ run. start ≤ run.end) (run ∷ runs) → All (λ run. run.start < end) (run ∷ runs)
-    → (in_runs (run ∷ runs) i && not (is_within start end i)) ≡ (is_within run.start start i || is_within end (last_end run.end runs) i)
-cut_span run [] low start end i rising filled ended begun =
-    ap (λ (b : Bool). b && not (is_within start end i)) (or-false (is_within run.start run.end i))
-    ∙ cut_one run.start run.end start end i
-    (All-head (λ (run : Run). start ≤ run.end) run [] ended) (All-head (λ (run : Run). run.start < end) run [] begun) filled
-cut_span run (next ∷ runs) low start end i rising filled ended begun =
-    let later = cut_span next runs (run.end + 1) start end i rising.2 filled
-    (All-tail (λ (run : Run). start ≤ run.end) run (next ∷ runs) ended)
-    (All-tail (λ (run : Run). run.start < end) run (next ∷ runs) begun) in
-    let reached : start ≤ run.end = All-head (λ (run : Run). start ≤ run.end) run (next ∷ runs) ended in
-    let begins : next.start < end =
-    All-head (λ (run : Run). run.start < end) next runs (All-tail (λ (run : Run). run.start < end) run (next ∷ runs) begun) in
-    let none_above : is_within end run.end i ≡ false = no_offset end run.end i (omega (arith, rising.2.0)) in
-    let none_below : is_within next.start start i ≡ false = no_offset next.start start i (omega (arith, rising.2.0)) in
-    and_or (is_within run.start run.end i) (in_runs (next ∷ runs) i) (not (is_within start end i))
-    ∙ ap (λ (b : Bool). (is_within run.start run.end i && not (is_within start end i)) || b) later
-    ∙ ap (λ (b : Bool). b || (is_within next.start start i || is_within end (last_end next.end runs) i))
-    (cut_one run.start run.end start end i reached (omega (arith, rising.1, rising.2.0)) filled)
-    ∙ ap (λ (b : Bool). (is_within run.start start i || b) || (is_within next.start start i || is_within end (last_end next.end runs) i)) none_above
-    ∙ ap (λ (b : Bool). (is_within run.start start i || false) || (b || is_within end (last_end next.end runs) i)) none_below
-    ∙ ap (λ (b : Bool). b || is_within end (last_end next.end runs) i) (or-false (is_within run.start start i))
-
 -- a run that is kept where it is not empty
 pub in_kept : (run : Run) (runs : List Run) (i : ℕ) → in_runs (kept run runs) i ≡ (is_within run.start run.end i || in_runs runs i)
 in_kept run runs i =
@@ -212,51 +164,6 @@ outside true m b false none = refl
 outside false true b false none = refl
 outside false false true false none = refl
 outside false false false false none = refl
-
-cut_from : (xs : List Run) (run : Run) (runs ys : List Run) (start end : ℕ) → IsRisingFrom 0 (xs ++ ((run ∷ runs) ++ ys)) → start < end
-    → All (λ run. run.end < start) xs → All (λ run. start ≤ run.end) (run ∷ runs) → All (λ run. run.start < end) (run ∷ runs)
-    → All (λ run. end ≤ run.start) ys
-    → IsRemoved (xs ++ ((run ∷ runs) ++ ys))
-    (xs ++ kept (record { start = run.start; end = start }) (kept (record { start = end; end = last_end run.end runs }) ys)) start end
-cut_from xs run runs ys start end rising filled below ended begun above =
-    let rest : IsRisingFrom (beyond 0 xs) ((run ∷ runs) ++ ys) = rising_rest 0 xs ((run ∷ runs) ++ ys) rising in
-    let middle : IsRisingFrom (beyond 0 xs) (run ∷ runs) = rising_front (beyond 0 xs) (run ∷ runs) ys rest in
-    let last : IsRisingFrom (last_end run.end runs + 1) ys =
-    subst (λ low. IsRisingFrom low ys) (beyond_last (beyond 0 xs) run runs) (rising_rest (beyond 0 xs) (run ∷ runs) ys rest) in
-    let from : beyond 0 xs ≤ start = beyond_ends 0 start xs (omega arith) below in
-    let reached : start ≤ last_end run.end runs =
-    omega (arith, All-head (λ (run : Run). start ≤ run.end) run runs ended, last_end-rises run.end runs middle.2) in
-    let upper : Run = record { start = end; end = last_end run.end runs } in
-    let lower : Run = record { start = run.start; end = start } in
-    let from_upper : IsRisingFrom (start + 1) (kept upper ys) =
-    rising_kept (start + 1) upper ys (omega arith) (IsRisingFrom-lower (start + 1) (last_end run.end runs + 1) ys (omega arith) last) (λ _. last) in
-    record {
-      rising = rising_append 0 xs (kept lower (kept upper ys)) (rising_front 0 xs ((run ∷ runs) ++ ys) rising)
-          (rising_kept (beyond 0 xs) lower (kept upper ys) middle.0
-          (IsRisingFrom-lower (beyond 0 xs) (start + 1) (kept upper ys) (omega arith) from_upper) (λ _. from_upper));
-      removed = λ i.
-          list_any-append (λ run. is_within run.start run.end i) xs (kept lower (kept upper ys))
-          ∙ ap (λ (b : Bool). in_runs xs i || b) (in_kept lower (kept upper ys) i)
-          ∙ ap (λ (b : Bool). in_runs xs i || (is_within run.start start i || b)) (in_kept upper ys i)
-          ∙ ap (λ (b : Bool). in_runs xs i || b)
-          (sym (or_later (is_within run.start start i) (is_within end (last_end run.end runs) i) (in_runs ys i)))
-          ∙ ap (λ (b : Bool). in_runs xs i || (b || in_runs ys i)) (sym (cut_span run runs (beyond 0 xs) start end i middle filled ended begun))
-          ∙ outside (in_runs xs i) (in_runs (run ∷ runs) i) (in_runs ys i) (is_within start end i)
-          (λ inside. let parts = and_parts (nat_le start i) (nat_lt i end) inside in
-          (past_ends start i xs (omega (arith, leb-true start i parts.0)) below, before_starts end i ys (ltb-true i end parts.1) above))
-          ∙ ap (λ (b : Bool). b && not (is_within start end i)) (sym (in_three xs run runs ys i));
-    }
-
--- a range that meets no run
-met_none : (xs ys : List Run) (start end : ℕ) → All (λ run. run.end < start) xs → All (λ run. end ≤ run.start) ys
-    → SameSet (in_runs (xs ++ ys)) (without_range (in_runs (xs ++ ys)) start end)
-met_none xs ys start end below above i =
-    let whole = list_any-append (λ run. is_within run.start run.end i) xs ys in
-    whole
-    ∙ outside (in_runs xs i) false (in_runs ys i) (is_within start end i)
-    (λ inside. let parts = and_parts (nat_le start i) (nat_lt i end) inside in
-    (past_ends start i xs (omega (arith, leb-true start i parts.0)) below, before_starts end i ys (ltb-true i end parts.1) above))
-    ∙ ap (λ (b : Bool). b && not (is_within start end i)) (sym whole)
 
 -- ---- runs in three parts, by places
 
@@ -355,54 +262,108 @@ added_apart runs new first last start end rising filled le within below above is
     subst (λ l. IsAdded l new start end) parts
     (subst (λ l. IsAdded (take first runs ++ drop first runs) l start end) (sym is) made)
 
-pub removed_cut : (runs after_cut after_upper new : List Run) (first last start end : ℕ) (lower upper : Run) → IsRisingFrom 0 runs → start < end
-    → first < last → last ≤ length runs
-    → All (λ run. run.end < start) (take first runs) → All (λ run. start ≤ run.end) (drop first runs)
-    → All (λ run. run.start ≤ end - 1) (take last runs) → All (λ run. end - 1 < run.start) (drop last runs)
-    → lower ≡ get_or runs first lower → upper ≡ get_or runs (last - 1) upper
-    → after_cut ≡ take first runs ++ drop last runs
-    → after_upper ≡ take first after_cut ++ kept (record { start = end; end = upper.end }) (drop first after_cut)
-    → new ≡ take first after_upper ++ kept (record { start = lower.start; end = start }) (drop first after_upper)
-    → IsRemoved runs new start end
-removed_cut runs after_cut after_upper new first last start end lower upper rising filled some within below ended begun above lower_is upper_is cut_is upper_put is =
-    let count : ℕ = last - first - 1 in
-    let ordered : first + suc count ≡ last = omega arith in
-    let run : Run = get_or runs first lower in
-    let middle : List Run = take count (drop (first + 1) runs) in
-    let parts : runs ≡ take first runs ++ ((run ∷ middle) ++ drop last runs) = three_parts runs first count last lower ordered within in
-    let made = cut_from (take first runs) run middle (drop last runs) start end
-    (subst (IsRisingFrom 0) parts rising) filled below
-    (middle_above runs first count last lower ordered within (λ run. start ≤ run.end) ended)
-    (All-weaker (λ (run : Run). run.start ≤ end - 1) (λ (run : Run). run.start < end) (λ run le. omega arith) (run ∷ middle)
-    (middle_below runs first count last lower ordered within (λ run. run.start ≤ end - 1) begun))
-    (All-weaker (λ (run : Run). end - 1 < run.start) (λ (run : Run). end ≤ run.start) (λ run less. omega arith) (drop last runs) above) in
-    let size : length (take first runs) ≡ first = length-take-le first runs (omega arith) in
-    let lowest : lower.start ≡ run.start = ap (λ (r : Run). r.start) lower_is in
-    let highest : upper.end ≡ last_end run.end middle =
-    ap (λ (r : Run). r.end) (get_or_read runs (last - 1) upper (omega arith) upper_is lower)
-    ∙ sym (middle_last runs first count last lower ordered within) in
-    let higher : List Run = kept (record { start = end; end = upper.end }) (drop last runs) in
-    let front : take first after_cut ≡ take first runs = ap (take first) cut_is ∙ take_at (take first runs) (drop last runs) first size in
-    let back : drop first after_cut ≡ drop last runs = ap (drop first) cut_is ∙ drop_at (take first runs) (drop last runs) first size in
-    let upper_is_put : after_upper ≡ take first runs ++ higher =
-    upper_put ∙ ap (λ (l : List Run). l ++ kept (record { start = end; end = upper.end }) (drop first after_cut)) front
-    ∙ ap (λ (l : List Run). take first runs ++ kept (record { start = end; end = upper.end }) l) back in
-    let front' : take first after_upper ≡ take first runs = ap (take first) upper_is_put ∙ take_at (take first runs) higher first size in
-    let back' : drop first after_upper ≡ higher = ap (drop first) upper_is_put ∙ drop_at (take first runs) higher first size in
-    let of : ℕ → ℕ → List Run =
-    λ from to. take first runs ++ kept (record { start = from; end = start }) (kept (record { start = end; end = to }) (drop last runs)) in
-    let new_is : new ≡ of run.start (last_end run.end middle) =
-    is ∙ ap (λ (l : List Run). l ++ kept (record { start = lower.start; end = start }) (drop first after_upper)) front'
-    ∙ ap (λ (l : List Run). take first runs ++ kept (record { start = lower.start; end = start }) l) back'
-    ∙ ap (λ (n : ℕ). of n upper.end) lowest ∙ ap (λ (n : ℕ). of run.start n) highest in
-    subst (λ l. IsRemoved l new start end) (sym parts)
-    (subst (λ l. IsRemoved (take first runs ++ ((run ∷ middle) ++ drop last runs)) l start end) (sym new_is) made)
+-- ---- a range that goes to its place
 
-pub removed_none : (runs : List Run) (first last start end : ℕ) → IsRisingFrom 0 runs → start < end → last ≤ first → first ≤ length runs
-    → All (λ run. run.end < start) (take first runs) → All (λ run. end - 1 < run.start) (drop last runs)
-    → SameSet (in_runs runs) (without_range (in_runs runs) start end)
-removed_none runs first last start end rising filled le within below above =
-    let from_end = All-weaker (λ (run : Run). end - 1 < run.start) (λ (run : Run). end ≤ run.start) (λ run less. omega arith) (drop last runs) above in
-    let same : last ≡ first = places_meet runs first last start end rising filled le within below from_end in
-    subst (λ l. SameSet (in_runs l) (without_range (in_runs l) start end)) (take-append-drop first runs)
-    (met_none (take first runs) (drop first runs) start end below (subst (λ n. All (λ run. end ≤ run.start) (drop n runs)) same from_end))
+-- runs that end below a range stand before those that begin above it
+pub ends_before : (runs : List Run) (first behind start end : ℕ) → IsRisingFrom 0 runs → start < end → first ≤ length runs
+    → All (λ run. run.end < start) (take first runs) → All (λ run. end < run.start) (drop behind runs) → first ≤ behind
+ends_before runs first behind start end rising filled within below above = ⊎_elim
+    (λ (less : behind < first).
+    let same : behind ≡ first = places_meet runs first behind start end rising filled (omega arith) within below
+    (All-weaker (λ (run : Run). end < run.start) (λ (run : Run). end ≤ run.start) (λ run less. omega arith) (drop behind runs) above) in
+    omega arith)
+    (λ (le : first ≤ behind). le)
+    (cases_lt behind first)
+
+end_or_apart : (end : ℕ) (runs : List Run) → All (λ run. end < run.start) runs → end_or end runs ≡ end
+end_or_apart end [] above = refl
+end_or_apart end (run ∷ runs) above =
+    cond-false (nat_le run.start end) run.end end (lt-leb run.start end (All-head (λ (run : Run). end < run.start) run runs above))
+
+start_or_apart : (start end : ℕ) (runs : List Run) → start < end → All (λ run. end < run.start) runs → start_or start runs ≡ start
+start_or_apart start end [] less above = refl
+start_or_apart start end (run ∷ runs) less above =
+    let first : end < run.start = All-head (λ (run : Run). end < run.start) run runs above in omega arith
+
+module _ (runs : List Run) (last behind end : ℕ) (within : behind ≤ length runs) (le : last ≤ behind) (one : behind ≤ last + 1)
+    (ended : All (λ run. run.end < end) (take last runs)) (reached : All (λ run. end ≤ run.end) (drop last runs))
+    (begun : All (λ run. run.start ≤ end) (take behind runs)) (above : All (λ run. end < run.start) (drop behind runs)) where
+  -- the last run that the end touches
+  last_touched : (d : Run) → last < behind → end_or end (drop last runs) ≡ max (get_or runs (behind - 1) d).end end
+  last_touched d less =
+      let run : Run = get_or runs last d in
+      let rest : drop last runs ≡ run ∷ drop (last + 1) runs = drop_more runs last d (omega arith) in
+      let begins : run.start ≤ end = rw (get_or-take behind runs last d less) at (begun last d (omega (arith, length-take-le behind runs within))) in
+      let ends : end ≤ (get_or runs (last + 0) d).end = rw (get_or-drop last runs 0 d) at (reached 0 d (omega (arith, length-drop last runs))) in
+      let here : last + 0 ≡ last = omega arith in
+      let far : end ≤ run.end = rw here at ends in
+      let place : behind - 1 ≡ last = omega arith in
+      let most : run.end ≡ max run.end end = omega arith in
+      ap (end_or end) rest
+      ∙ cond-true (nat_le run.start end) run.end end (le-leb run.start end begins)
+      ∙ most
+      ∙ ap (λ (n : ℕ). max (get_or runs n d).end end) (sym place)
+
+  -- no run that ends at or above the end begins at or below it
+  none_touched : (d : Run) → last ≡ behind → 0 < behind → end_or end (drop last runs) ≡ max (get_or runs (behind - 1) d).end end
+  none_touched d same some =
+      let ends : (get_or runs (last - 1) d).end < end =
+      rw (get_or-take last runs (last - 1) d (omega arith)) at (ended (last - 1) d (omega (arith, length-take-le last runs (omega arith)))) in
+      let most : end ≡ max (get_or runs (last - 1) d).end end = omega arith in
+      ap (λ (n : ℕ). end_or end (drop n runs)) same
+      ∙ end_or_apart end (drop behind runs) above
+      ∙ most
+      ∙ ap (λ (n : ℕ). max (get_or runs (n - 1) d).end end) same
+
+  highest_touched : (d : Run) → 0 < behind → end_or end (drop last runs) ≡ max (get_or runs (behind - 1) d).end end
+  highest_touched d some = ⊎_elim
+      (λ (less : last < behind). last_touched d less)
+      (λ (past : behind ≤ last). let same : last ≡ behind = omega arith in none_touched d same some)
+      (cases_lt last behind)
+
+  -- where the runs that begin at or below the end also end below it
+  none_past : (d : Run) → All (λ run. run.end < end) (take behind runs) → last ≡ behind
+  none_past d all = ⊎_elim
+      (λ (less : last < behind).
+      let below : (get_or runs last d).end < end = rw (get_or-take behind runs last d less) at (all last d (omega (arith, length-take-le behind runs within))) in
+      let ends : end ≤ (get_or runs (last + 0) d).end = rw (get_or-drop last runs 0 d) at (reached 0 d (omega (arith, length-drop last runs))) in
+      let here : last + 0 ≡ last = omega arith in
+      let far : end ≤ (get_or runs last d).end = rw here at ends in
+      absurd (omega arith))
+      (λ (past : behind ≤ last). omega arith)
+      (cases_lt last behind)
+
+pub added_put : (runs new : List Run) (first last behind start end : ℕ) (joined : Run) → IsRisingFrom 0 runs → start < end
+    → behind ≤ length runs → first ≤ length runs → last ≤ behind → behind ≤ last + 1
+    → All (λ run. run.end < start) (take first runs) → All (λ run. start ≤ run.end) (drop first runs)
+    → All (λ run. run.end < end) (take last runs) → All (λ run. end ≤ run.end) (drop last runs)
+    → All (λ run. run.start ≤ end) (take behind runs) → All (λ run. end < run.start) (drop behind runs)
+    → joined.start ≡ start_or start (drop first runs) → joined.end ≡ end_or end (drop last runs)
+    → new ≡ take first runs ++ joined ∷ drop behind runs
+    → IsAdded runs new start end
+added_put runs new first last behind start end joined rising filled within inside le one below from ended reached begun above low high is =
+    let d : Run = record { start = 0; end = 0 } in
+    let ordered : first ≤ behind = ends_before runs first behind start end rising filled inside below above in
+    ⊎_elim
+    (λ (some : first < behind).
+    let lower : Run = get_or runs first d in
+    let upper : Run = get_or runs (behind - 1) d in
+    added_joined runs new first behind start end lower upper joined rising filled some within below from begun above
+    (get_or_default runs first d lower (omega arith)) (get_or_default runs (behind - 1) d upper (omega arith))
+    (low ∙ ap (start_or start) (drop_more runs first d (omega arith)))
+    (high ∙ highest_touched runs last behind end within le one ended reached begun above d (omega arith))
+    is)
+    (λ (none : behind ≤ first).
+    let same : first ≡ behind = omega arith in
+    let below_end : All (λ run. run.end < end) (take behind runs) =
+    subst (λ n. All (λ (run : Run). run.end < end) (take n runs)) same
+    (All-weaker (λ (run : Run). run.end < start) (λ (run : Run). run.end < end) (λ run less. omega arith) (take first runs) below) in
+    let last_is : last ≡ behind = none_past runs last behind end within le one ended reached begun above d below_end in
+    let starts : joined.start ≡ start =
+    low ∙ ap (λ (n : ℕ). start_or start (drop n runs)) same ∙ start_or_apart start end (drop behind runs) filled above in
+    let ends : joined.end ≡ end =
+    high ∙ ap (λ (n : ℕ). end_or end (drop n runs)) last_is ∙ end_or_apart end (drop behind runs) above in
+    let of : ℕ → ℕ → ℕ → List Run = λ n a b. take first runs ++ record { start = a; end = b } ∷ drop n runs in
+    added_apart runs new first behind start end rising filled none inside below above
+    (is ∙ ap (λ (n : ℕ). of n joined.start joined.end) (sym same) ∙ ap (λ (n : ℕ). of first n joined.end) starts ∙ ap (λ (n : ℕ). of first start n) ends))
+    (cases_lt first behind)

@@ -6,3 +6,6 @@ pub mod SearchLemmas
 pub mod EditLemmas
 pub mod WalkLemmas
 pub mod MergeLemmas
+pub mod BlockLemmas
+pub mod KeptLemmas
+pub mod SplitLemmas

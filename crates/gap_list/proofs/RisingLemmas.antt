@@ -81,13 +81,13 @@ partitioned_by_start runs offset rising =
     IsPartitionedBy-leb (λ run. run.start) runs offset (λ i j d le within. (edges_rise 0 runs rising i j d le within).1)
 
 -- what a partition says of both parts
-below_point : (P : Run → Type 0) (p : Run → Bool) (runs : List Run) (place : ℕ) → ((run : Run) → p run ≡ true → P run) → place ≤ length runs
+pub below_point : {X : Type 0} (P : X → Type 0) (p : X → Bool) (runs : List X) (place : ℕ) → ((run : X) → p run ≡ true → P run) → place ≤ length runs
     → AllWithin (λ run. p run ≡ true) runs 0 place → All P (take place runs)
 below_point P p runs place means within holds k d less =
     let before : k < place = omega (arith, less, length-take-le place runs within) in
     rw (get_or-take place runs k d before) (means (get_or runs k d) (holds k d (omega arith) before))
 
-above_point : (P : Run → Type 0) (p : Run → Bool) (runs : List Run) (place : ℕ) → ((run : Run) → p run ≡ false → P run)
+pub above_point : {X : Type 0} (P : X → Type 0) (p : X → Bool) (runs : List X) (place : ℕ) → ((run : X) → p run ≡ false → P run)
     → AllWithin (λ run. p run ≡ false) runs place (length runs) → All P (drop place runs)
 above_point P p runs place means holds k d less =
     rw (get_or-drop place runs k d)

@@ -3,14 +3,15 @@ use Rattle.std.proofs.Common.{◌≡◌, ℕ, suc, ◌+◌, ◌-◌, ◌<◌, �
 use Rattle.std.specs.List.{All}
 use Rattle.std.proofs.Math.Bool.{and-false, and-true}
 use Rattle.std.proofs.lemmas.Bool.{cases_lt, cond_both, le-leb, lt-leb, lt-ltb, le-ltb, and_right, leb-true, leb-false, or_left, or_right, or_from, true≢false, false≢true}
-use Rattle.std.proofs.lemmas.List.Elements.{All-head, All-tail}
+use Rattle.std.proofs.lemmas.List.{take-append-drop}
+use Rattle.std.proofs.lemmas.List.Elements.{All-head, All-tail, All-nil, All-cons}
 use Rattle.std.proofs.lemmas.Option.{slice_get_within, get_or_from_slice_get}
 use Rattle.gap_list.specs.declared.run.Run.{Run}
 use Rattle.gap_list.specs.Runs.{is_within, in_runs, without_range, runs_from, runs_of, first_run, IsFree, IsExtent, IsRisingFrom}
 use Rattle.gap_list.specs.Places.{end_or, start_or, begins_from, last_end}
 use Rattle.gap_list.proofs.RunLemmas.{is_within_tells, runs_from-none, runs_from-all}
 use Rattle.gap_list.proofs.SetLemmas.{below_rising}
-use Rattle.gap_list.proofs.RisingLemmas.{beyond, rising_drop, in_parts, in_rest}
+use Rattle.gap_list.proofs.RisingLemmas.{beyond, rising_front, rising_drop, in_parts, in_rest}
 
 -- an offset within a run, and one outside
 pub within_run : (start end i : ℕ) → start ≤ i → i < end → is_within start end i ≡ true
@@ -120,6 +121,38 @@ gap_end-stops runs place limit rising to =
     in_parts runs place (start_or limit (drop place runs))
     ∙ or_right (in_runs (take place runs) (start_or limit (drop place runs))) (in_runs (drop place runs) (start_or limit (drop place runs)))
     (start_or-stops (beyond 0 (take place runs)) limit (drop place runs) (rising_drop runs place rising) to)
+
+-- where the runs before a place end at or below an offset, they begin there too
+pub begun_where_ended : (low offset : ℕ) (runs : List Run) → IsRisingFrom low runs → All (λ run. run.end < offset + 1) runs → All (λ run. run.start ≤ offset) runs
+begun_where_ended low offset [] rising ended = All-nil (λ (run : Run). run.start ≤ offset)
+begun_where_ended low offset (run ∷ runs) rising ended =
+    let first : run.end < offset + 1 = All-head (λ (run : Run). run.end < offset + 1) run runs ended in
+    All-cons (λ (run : Run). run.start ≤ offset) run runs (omega (arith, rising.1))
+    (begun_where_ended (run.end + 1) offset runs rising.2 (All-tail (λ (run : Run). run.end < offset + 1) run runs ended))
+
+-- runs that end above an offset that they don't have begin above it
+pub begins_where_missing : (offset : ℕ) (runs : List Run) → All (λ run. offset + 1 ≤ run.end) runs → in_runs runs offset ≡ false
+    → All (λ run. offset < run.start) runs
+begins_where_missing offset [] above missing = All-nil (λ (run : Run). offset < run.start)
+begins_where_missing offset (run ∷ runs) above missing =
+    let past : offset + 1 ≤ run.end = All-head (λ (run : Run). offset + 1 ≤ run.end) run runs above in
+    let out : is_within run.start run.end offset ≡ false = either_false-left (is_within run.start run.end offset) (in_runs runs offset) missing in
+    let first : offset < run.start = ⊎_elim
+    (λ (less : offset < run.start). less)
+    (λ (from : run.start ≤ offset). absurd (true≢false (sym (within_run run.start run.end offset from (omega arith)) ∙ out)))
+    (cases_lt offset run.start) in
+    All-cons (λ (run : Run). offset < run.start) run runs first
+    (begins_where_missing offset runs (All-tail (λ (run : Run). offset + 1 ≤ run.end) run runs above)
+    (either_false-right (is_within run.start run.end offset) (in_runs runs offset) missing))
+
+-- an offset that runs don't have is in no part of them
+pub missing_rest : (runs : List Run) (place offset : ℕ) → in_runs runs offset ≡ false → in_runs (drop place runs) offset ≡ false
+missing_rest runs place offset missing =
+    either_false-right (in_runs (take place runs) offset) (in_runs (drop place runs) offset) (sym (in_parts runs place offset) ∙ missing)
+
+pub rising_take : (runs : List Run) (place : ℕ) → IsRisingFrom 0 runs → IsRisingFrom 0 (take place runs)
+rising_take runs place rising =
+    rising_front 0 (take place runs) (drop place runs) (subst (IsRisingFrom 0) (sym (take-append-drop place runs)) rising)
 
 -- ---- the lowest run
 

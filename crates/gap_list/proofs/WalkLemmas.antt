@@ -1,5 +1,5 @@
 -- The walk over rising runs finds the runs of what they leave out.
-use Rattle.std.proofs.Common.{◌≡◌, ℕ, zero, suc, ◌+◌, ◌-◌, ◌<◌, ◌≤◌, max, min, Bool, true, false, ◌&&◌, ◌||◌, ◌⊎◌, not, nat_le, nat_lt, List, [], ◌∷◌, ◌++◌, length, get_or, take, drop, refl, ap, sym, ◌∙◌, eqb, arith, subst, ⊎_elim, append_assoc, append-nil, length-append}
+use Rattle.std.proofs.Common.{◌≡◌, ℕ, zero, suc, ◌+◌, ◌-◌, ◌<◌, ◌≤◌, max, min, Bool, true, false, ◌&&◌, ◌||◌, ◌⊎◌, not, nat_le, nat_lt, List, [], ◌∷◌, ◌++◌, length, get_or, take, drop, refl, ap, sym, ◌∙◌, eqb, arith, subst, ⊎_elim, append_assoc, append-nil, length-append, inl, Some, None}
 use Rattle.std.specs.List.{All}
 use Rattle.std.proofs.lemmas.Bool.{cond_both, cond-true, cond-false, cases_lt, lt-ltb, le-ltb, and_right, and_parts, leb-true}
 use Rattle.std.proofs.Math.Bool.{or-false}
@@ -11,11 +11,13 @@ use Rattle.std.proofs.lemmas.List.Elements.{All-weaker}
 use Rattle.gap_list.specs.declared.run.Run.{Run}
 use Rattle.gap_list.specs.Runs.{is_within, in_runs, with_range, joined, joined_if, runs_from, runs_of, new_runs, missing_runs, IsRisingFrom}
 use Rattle.gap_list.specs.Places.{kept}
+use Rattle.gap_list.specs.Blocks.{first_of}
 use Rattle.gap_list.proofs.RunLemmas.{in_runs-runs_of, IsRisingFrom-runs_of, IsRisingFrom-lower, runs_of-same}
 use Rattle.gap_list.proofs.SetLemmas.{below_rising, runs_of-unique, ends-runs_of, filled-runs_of, in_set-runs_of, missing_runs-same}
 use Rattle.gap_list.proofs.SearchLemmas.{within_run, below_run, above_run}
 use Rattle.gap_list.proofs.RisingLemmas.{beyond, rising_append, beyond_ends, rising_drop, in_rest}
 use Rattle.gap_list.proofs.EditLemmas.{no_offset, in_kept, rising_kept, rising_above}
+use Rattle.gap_list.proofs.BlockLemmas.{first_is}
 
 -- what runs leave out of the offsets from start to end - 1, run by run
 abbrev pub gaps_of : List Run → ℕ → ℕ → List Run
@@ -304,3 +306,38 @@ first_of_missing set limit most empty all none all_is =
     all_is ∙ ap (λ (l : List Run). l ++ take (most - length l) (new_runs set 0 limit)) none
     ∙ ap (λ (n : ℕ). take n (new_runs set 0 limit)) few
     ∙ ap (take most) (new_from_first set limit)
+
+-- a run is found at the place
+pub walk_found : (gaps new target runs : List Run) (place offset stop next end most : ℕ) (run : Run) → Some run ≡ first_of (drop place runs) → length gaps < most
+    → stop ≡ min run.start end → next ≡ max run.end offset
+    → new ≡ gaps ++ kept (record { start = offset; end = stop }) []
+    → gaps ++ take (most - length gaps) (gaps_of (drop place runs) offset end) ≡ target
+    → new ++ take (most - length new) (gaps_of (drop (place + 1) runs) next end) ≡ target
+walk_found gaps new target runs place offset stop next end most run is few stop_is next_is new_is so_far =
+    let here = first_is runs place run is in
+    walk_goes gaps new target runs place offset stop next end most run here.0 few
+    (rw here.1 stop_is) (rw here.1 next_is) new_is so_far
+
+-- no run is left
+pub walk_none : (gaps new target runs : List Run) (place offset end most : ℕ) → None ≡ first_of (drop place runs) → length gaps < most
+    → new ≡ gaps ++ kept (record { start = offset; end = end }) []
+    → gaps ++ take (most - length gaps) (gaps_of (drop place runs) offset end) ≡ target
+    → new ≡ target
+walk_none gaps new target runs place offset end most none few new_is so_far =
+    ⊎_elim
+    (λ (within : place < length runs).
+    let rest : None ≡ Some (get_or runs place (record { start = 0; end = 0 })) =
+    none ∙ ap first_of (drop_more runs place (record { start = 0; end = 0 }) within) in
+    absurd cc)
+    (λ (past : length runs ≤ place).
+    walk_ends gaps new target runs place offset end most few (inl past) new_is so_far)
+    (cases_lt place (length runs))
+
+-- nothing is left out from here on
+pub walk_past : (gaps target runs : List Run) (place offset end most : ℕ) → end ≤ offset
+    → gaps ++ take (most - length gaps) (gaps_of (drop place runs) offset end) ≡ target → gaps ≡ target
+walk_past gaps target runs place offset end most past so_far =
+    sym (append-nil gaps)
+    ∙ ap (λ (l : List Run). gaps ++ l) (sym (take-nil (most - length gaps)))
+    ∙ ap (λ (l : List Run). gaps ++ take (most - length gaps) l) (sym (gaps_past offset end (drop place runs) past))
+    ∙ so_far

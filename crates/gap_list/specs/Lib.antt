@@ -1,3 +1,4 @@
 pub mod Runs
 pub mod Covered
 pub mod Places
+pub mod Blocks

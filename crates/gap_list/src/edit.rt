@@ -1,11 +1,10 @@
-//! Adding ranges to a vector of rising runs and removing them, in memory reserved beforehand.
+//! Adding ranges and runs to a vector of rising runs, in memory reserved beforehand.
 ghost use Rattle.std.specs.Prelude.{◌≡◌, ℕ, ◌+◌, ◌<◌, ◌≤◌, ◌++◌, ◌∷◌, take, drop, vec_len, vec_capacity};
 ghost use Rattle.std.specs.List.{insert};
-ghost use Rattle.gap_list.specs.Places.{kept};
-ghost use Rattle.gap_list.specs.Runs.{in_runs, with_range, without_range, SameSet, IsRisingFrom};
+ghost use Rattle.gap_list.specs.Runs.{in_runs, with_range, SameSet, IsRisingFrom};
 
 use crate::run::Run;
-use crate::search::{begun_by, ended_below};
+use crate::slices::{begun_by, ended_below};
 
 // Removes the runs from place `first` to place `last` - 1.
 fn cut(runs: &mut Vec<Run>, first: usize, last: usize)
@@ -66,42 +65,18 @@ pub fn add(runs: &mut Vec<Run>, start: u32, end: u32)
     }
 }
 
-// Inserts a run at a place unless it is empty, without allocating.
-fn insert_filled(runs: &mut Vec<Run>, place: usize, run: Run)
-    requires within { place ≤ vec_len runs.old }
+/// Replaces the runs from place `first` to place `last` - 1 by one run, without allocating.
+pub fn put(runs: &mut Vec<Run>, first: usize, last: usize, run: Run)
+    requires ordered { first ≤ last }
+    requires within { last ≤ vec_len runs.old }
     requires room { vec_len runs.old < vec_capacity runs.old }
-    ensures items { runs.new.items ≡ take place runs.old.items ++ kept run (drop place runs.old.items) }
+    ensures items { runs.new.items ≡ take first runs.old.items ++ run ∷ drop last runs.old.items }
     ensures len { vec_len runs.new ≤ vec_len runs.old + 1 }
-    ensures grown { vec_len runs.old ≤ vec_len runs.new }
     ensures room { vec_capacity runs.new ≡ vec_capacity runs.old }
 {
-    if run.start < run.end {
-        insert_run(runs, place, run);
-    }
-}
-
-// Removes a range: a run that it meets keeps what lies below and above the range.
-pub fn remove(runs: &mut Vec<Run>, start: u32, end: u32)
-    requires filled { start < end }
-    requires rising { IsRisingFrom 0 runs.old.items }
-    requires room { vec_len runs.old < vec_capacity runs.old }
-    ensures rising { IsRisingFrom 0 runs.new.items }
-    ensures removed { SameSet (in_runs runs.new.items) (without_range (in_runs runs.old.items) start end) }
-    ensures room { (vec_len runs.new ≤ vec_len runs.old + 1) × (vec_capacity runs.new ≡ vec_capacity runs.old) }
-{
-    let first = ended_below(runs.as_slice(), start);
-    let last = begun_by(runs.as_slice(), end - 1);
     if first < last {
-        let below = Run {
-            start: runs[first].start,
-            end: start,
-        };
-        let above = Run {
-            start: end,
-            end: runs[last - 1].end,
-        };
-        cut(runs, first, last);
-        insert_filled(runs, first, above);
-        insert_filled(runs, first, below);
+        replace(runs, first, last, run);
+    } else {
+        insert_run(runs, first, run);
     }
 }

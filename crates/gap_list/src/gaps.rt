@@ -1,5 +1,6 @@
+use crate::blocks::Blocks;
 use crate::run::{Run, Runs};
-use crate::{edit, merge, search, walk};
+use crate::{merge, search, walk};
 use std::alloc::{AllocError, Global};
 use std::marker::Model;
 
@@ -8,19 +9,19 @@ use std::marker::Model;
 /// It is kept as rising runs that don't touch, so a file that arrives in order costs one run.
 #[derive(Debug, Drop)]
 pub struct Gaps {
-    runs: Vec<Run>,
+    runs: Blocks,
 }
 
 impl Model for Gaps {
-    ghost use Rattle.std.specs.Prelude.{◌-◌, vec_len, vec_capacity};
+    ghost use Rattle.gap_list.specs.Blocks.{all_runs, IsKept};
     ghost use Rattle.gap_list.specs.Covered.{GapsValue};
     ghost use Rattle.gap_list.specs.Runs.{IsRisingFrom};
 
     ghost Value = { GapsValue };
 
-    ghost view = { λ g. record { runs = g.runs.items; room = vec_capacity g.runs - vec_len g.runs } };
+    ghost view = { λ g. record { runs = all_runs g.runs; room = g.runs.room } };
 
-    ghost invariant = { λ g. IsRisingFrom 0 g.runs.items };
+    ghost invariant = { λ g. IsRisingFrom 0 (all_runs g.runs) × IsKept g.runs };
 }
 
 #[tactic(auto, unfolding(crate::specs::Covered::covered))]
@@ -34,7 +35,7 @@ impl Gaps {
         ensures { (offset : ℕ) → covered result offset ≡ false }
     {
         Gaps {
-            runs: Vec::new(alloc),
+            runs: Blocks::of(Vec::new(alloc)),
         }
     }
 
@@ -44,11 +45,11 @@ impl Gaps {
         ensures room { IfOk result (λ gaps. count ≤ gaps.room) }
     {
         Ok(Gaps {
-            runs: Vec::with_capacity(alloc, count)?,
+            runs: Blocks::of(Vec::with_capacity(alloc, count)?),
         })
     }
 
-    /// Makes room for `count` more runs. Each `add` and each `remove` takes at most one.
+    /// Makes room for `count` more runs. Each `add` takes at most one.
     pub fn reserve(&mut self, count: usize) -> Result<(), AllocError>
         ensures same { SameSet (covered self.new) (covered self.old) }
         ensures room { OnOk result (count ≤ self.new.room) }
@@ -65,19 +66,7 @@ impl Gaps {
         ensures room { self.old.room ≤ self.new.room + 1 }
     {
         if start < end {
-            edit::add(&mut self.runs, start, end);
-        }
-    }
-
-    /// Uncovers the offsets from `start` to `end` - 1, without allocating. This may split a run.
-    pub fn remove(&mut self, start: u32, end: u32)
-        requires ordered { start ≤ end }
-        requires room { 0 < self.old.room }
-        ensures removed { SameSet (covered self.new) (without_range (covered self.old) start end) }
-        ensures room { self.old.room ≤ self.new.room + 1 }
-    {
-        if start < end {
-            edit::remove(&mut self.runs, start, end);
+            self.runs.add(start, end);
         }
     }
 
@@ -99,8 +88,8 @@ impl Gaps {
     pub fn new_within(&self, start: u32, end: u32) -> Result<Runs, AllocError>
         ensures { IfOk result (λ runs. runs.items ≡ new_runs (covered self.now) start end) }
     {
-        let mut new = Runs::new(*self.runs.allocator());
-        walk::put_gaps(&mut new, self.runs.as_slice(), start, end, end as usize)?;
+        let mut new = Runs::new(*self.runs.top.allocator());
+        walk::put_gaps(&mut new, &self.runs, start, end, end as usize)?;
         Ok(new)
     }
 
@@ -108,7 +97,7 @@ impl Gaps {
     pub fn is_free(&self, start: u32, end: u32) -> bool
         ensures { IsTrue result ↔ IsFree (covered self.now) start end }
     {
-        start >= end || search::is_free(self.runs.as_slice(), start, end)
+        start >= end || search::is_free(&self.runs, start, end)
     }
 
     /// The offsets below the limit that aren't covered, as maximal runs from the lowest up.
@@ -122,8 +111,8 @@ impl Gaps {
     pub fn missing_first(&self, limit: u32, count: usize) -> Result<Runs, AllocError>
         ensures { IfOk result (λ runs. runs.items ≡ take count (missing_runs (covered self.now) limit)) }
     {
-        let mut missing = Runs::new(*self.runs.allocator());
-        walk::put_gaps(&mut missing, self.runs.as_slice(), 0, limit, count)?;
+        let mut missing = Runs::new(*self.runs.top.allocator());
+        walk::put_gaps(&mut missing, &self.runs, 0, limit, count)?;
         Ok(missing)
     }
 
@@ -140,14 +129,8 @@ impl Gaps {
         ensures { IfOk result
             (λ runs. runs.items ≡ take count (missing_runs (with_range (covered self.now) start end) limit)) }
     {
-        let mut missing = Runs::new(*self.runs.allocator());
-        walk::put_gaps_with(
-            &mut missing,
-            self.runs.as_slice(),
-            Run { start, end },
-            limit,
-            count,
-        )?;
+        let mut missing = Runs::new(*self.runs.top.allocator());
+        walk::put_gaps_with(&mut missing, &self.runs, Run { start, end }, limit, count)?;
         Ok(missing)
     }
 
@@ -155,15 +138,18 @@ impl Gaps {
     pub fn first_from(&self, offset: u32, limit: u32) -> Option<Run>
         ensures { result ≡ first_run (without_range (covered self.now) 0 offset) limit }
     {
-        search::first_run(self.runs.as_slice(), offset, limit)
+        search::first_run(&self.runs, offset, limit)
     }
 
     /// The set without the offsets below `from`, and with the ranges. Ranges that begin in rising order cost one pass.
     pub fn merged(&self, from: u32, ranges: &[Run]) -> Result<Gaps, AllocError>
         ensures { IfOk result (λ gaps. SameSet (covered gaps) (with_ranges (without_range (covered self.now) 0 from) ranges.now)) }
     {
-        let runs = merge::merged(*self.runs.allocator(), self.runs.as_slice(), from, ranges)?;
-        Ok(Gaps { runs })
+        let all = self.runs.all()?;
+        let merged = merge::merged(*all.allocator(), all.as_slice(), from, ranges)?;
+        Ok(Gaps {
+            runs: Blocks::of(merged),
+        })
     }
 
     /// A copy of the set.
@@ -171,7 +157,7 @@ impl Gaps {
         ensures { IfOk result (λ gaps. SameSet (covered gaps) (covered self.now)) }
     {
         Ok(Gaps {
-            runs: Vec::from_slice(*self.runs.allocator(), self.runs.as_slice())?,
+            runs: Blocks::of(self.runs.all()?),
         })
     }
 
@@ -179,20 +165,20 @@ impl Gaps {
     pub fn is_full(&self, limit: u32) -> bool
         ensures { IsTrue result ↔ ((offset : ℕ) → offset < limit → IsTrue (covered self.now offset)) }
     {
-        limit <= search::end_from(self.runs.as_slice(), 0)
+        limit <= search::end_from(&self.runs, 0)
     }
 
     /// Whether all offsets below the limit are covered once those from `start` to `end` - 1 are added.
     pub fn is_full_with(&self, start: u32, end: u32, limit: u32) -> bool
         ensures { IsTrue result ↔ ((offset : ℕ) → offset < limit → IsTrue (with_range (covered self.now) start end offset)) }
     {
-        limit <= search::end_with(self.runs.as_slice(), start, end)
+        limit <= search::end_with(&self.runs, start, end)
     }
 
     /// One more than the greatest covered offset; 0 where nothing is covered.
     pub fn extent(&self) -> u32
         ensures { IsExtent (covered self.now) result }
     {
-        search::greatest_end(self.runs.as_slice())
+        search::greatest_end(&self.runs)
     }
 }

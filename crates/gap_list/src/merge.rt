@@ -4,7 +4,7 @@ ghost use Rattle.gap_list.specs.Runs.{in_runs, with_range, with_ranges, without_
 
 use crate::edit::add;
 use crate::run::Run;
-use crate::search::{begun_by, end_from, ended_below, last_end};
+use crate::slices::{begun_by, end_from, ended_below, last_end};
 use std::alloc::{AllocError, Global};
 
 // Adds a range unless it is empty.

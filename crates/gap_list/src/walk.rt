@@ -1,10 +1,11 @@
 //! The gaps between rising runs.
 ghost use Rattle.std.specs.Prelude.{◌≡◌, ◌≤◌, ◌-◌, ◌++◌, OnOk, length, take, []};
+ghost use Rattle.gap_list.specs.Blocks.{all_runs, IsKept};
 ghost use Rattle.gap_list.specs.Places.{kept};
 ghost use Rattle.gap_list.specs.Runs.{in_runs, new_runs, missing_runs, with_range, IsRisingFrom};
 
+use crate::blocks::Blocks;
 use crate::run::{Run, Runs};
-use crate::search::ended_below;
 use std::alloc::AllocError;
 
 // Appends a run unless it is empty.
@@ -21,29 +22,29 @@ fn put(gaps: &mut Runs, run: Run) -> Result<(), AllocError>
 // runs.
 pub fn put_gaps(
     gaps: &mut Runs,
-    runs: &[Run],
+    runs: &Blocks,
     start: u32,
     end: u32,
     most: usize,
 ) -> Result<(), AllocError>
-    requires { IsRisingFrom 0 runs.now }
+    requires rising { IsRisingFrom 0 (all_runs runs.now) }
+    requires kept { IsKept runs.now }
     ensures { OnOk result (gaps.new.items
-        ≡ gaps.old.items ++ take (most - length gaps.old.items) (new_runs (in_runs runs.now) start end)) }
+        ≡ gaps.old.items ++ take (most - length gaps.old.items) (new_runs (in_runs (all_runs runs.now)) start end)) }
 {
-    let mut place = ended_below(runs, start);
+    let mut spot = runs.ended_below(start);
     let mut offset = start;
-    while place < runs.len() && offset < end && gaps.len() < most {
-        let run = runs[place];
+    while offset < end && gaps.len() < most {
+        let Some(run) = runs.get(spot) else {
+            return put(gaps, Run { start: offset, end });
+        };
         let gap = Run {
             start: offset,
             end: run.start.min(end),
         };
         put(gaps, gap)?;
         offset = run.end.max(offset);
-        place += 1;
-    }
-    if gaps.len() < most {
-        put(gaps, Run { start: offset, end })?;
+        spot = runs.after(spot);
     }
     Ok(())
 }
@@ -51,16 +52,17 @@ pub fn put_gaps(
 // Appends the first `most` runs of offsets below the limit that are neither in a run nor in the range.
 pub fn put_gaps_with(
     gaps: &mut Runs,
-    runs: &[Run],
+    runs: &Blocks,
     range: Run,
     limit: u32,
     most: usize,
 ) -> Result<(), AllocError>
     requires ordered { range.start ≤ range.end }
-    requires rising { IsRisingFrom 0 runs.now }
+    requires rising { IsRisingFrom 0 (all_runs runs.now) }
+    requires kept { IsKept runs.now }
     requires empty { gaps.old.items ≡ [] }
     ensures { OnOk result (gaps.new.items
-        ≡ take most (missing_runs (with_range (in_runs runs.now) range.start range.end) limit)) }
+        ≡ take most (missing_runs (with_range (in_runs (all_runs runs.now)) range.start range.end) limit)) }
 {
     if range.start == range.end {
         put_gaps(gaps, runs, 0, limit, most)?;

@@ -1,7 +1,7 @@
 use Rattle.std.proofs.Common.{rules, nat_le}
 use Rattle.std.proofs.lemmas.List.Sorted.{IsPartitionPoint-from_clause}
 use Rattle.gap_list.proofs.RisingLemmas.{partitioned_by_start, starts_below_point, starts_above_point}
-use Rattle.gap_list.proofs.search.begun_by.Goals as goal
+use Rattle.gap_list.proofs.slices.begun_by.Goals as goal
 
 pub returns-clause-below : goal.returns-clause-below
 returns-clause-below c =

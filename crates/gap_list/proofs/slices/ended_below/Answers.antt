@@ -1,7 +1,7 @@
 use Rattle.std.proofs.Common.{rules, nat_lt}
 use Rattle.std.proofs.lemmas.List.Sorted.{IsPartitionPoint-from_clause}
 use Rattle.gap_list.proofs.RisingLemmas.{partitioned_by_end, ends_below_point, ends_above_point}
-use Rattle.gap_list.proofs.search.ended_below.Goals as goal
+use Rattle.gap_list.proofs.slices.ended_below.Goals as goal
 
 pub returns-clause-below : goal.returns-clause-below
 returns-clause-below c =
