@@ -1,11 +1,11 @@
 -- Runs in blocks, as one list.
-use Rattle.std.proofs.Common.{◌≡◌, ℕ, zero, suc, ◌+◌, ◌-◌, ◌<◌, ◌≤◌, Bool, true, false, List, [], ◌∷◌, ◌++◌, length, get_or, set, take, drop, nat_lt, refl, ap, sym, ◌∙◌, arith, subst, ⊎_elim, append_assoc, append-nil, length-append, add-one, Some, None}
-use Rattle.std.specs.List.{All, AllWithin, flat_map}
+use Rattle.std.proofs.Common.{◌≡◌, ℕ, zero, suc, ◌+◌, ◌-◌, ◌<◌, ◌≤◌, true, false, List, [], ◌∷◌, ◌++◌, length, get_or, set, take, drop, nat_lt, refl, ap, sym, ◌∙◌, arith, subst, ⊎_elim, append_assoc, append-nil, length-append, add-one, Some, None}
+use Rattle.std.specs.List.{All, AllWithin}
 use Rattle.std.proofs.Math.Seq.{take-append-add, drop-append-add}
 use Rattle.std.proofs.lemmas.Bool.{cases_lt, ltb-true, ltb-false}
-use Rattle.std.proofs.lemmas.List.{take-append-le, drop-append-le, drop_more, drop_all, set-append_left, set_at, length-take-le, take_all, take_at, take_more, drop-drop, nil_from_length}
+use Rattle.std.proofs.lemmas.List.{take-append-le, drop-append-le, drop_more, drop_all, set_at, length-take-le, take_all, take_at, take_more, drop-drop, nil_from_length}
 use Rattle.std.proofs.lemmas.List.Concat.{flat_map-append}
-use Rattle.std.proofs.lemmas.List.Elements.{All-head, All-tail, All-nil, All-cons, All-append, All-same, All-take, All-drop, All-weaker, All-more}
+use Rattle.std.proofs.lemmas.List.Elements.{All-head, All-tail, All-nil, All-cons, All-append, All-same, All-weaker, All-more}
 use Rattle.gap_list.specs.declared.run.Run.{Run}
 use Rattle.gap_list.specs.Runs.{IsRisingFrom}
 use Rattle.gap_list.specs.Places.{last_end}

@@ -1,18 +1,17 @@
 -- Rising runs after a range was added or taken out.
 use Rattle.std.proofs.Common.{◌≡◌, ℕ, suc, ◌+◌, ◌-◌, ◌<◌, ◌≤◌, max, min, Bool, true, false, ◌&&◌, ◌||◌, not, nat_le, nat_lt, List, [], ◌∷◌, ◌++◌, length, get_or, take, drop, refl, ap, sym, ◌∙◌, arith, subst, ⊎_elim, add-zero, length-drop}
 use Rattle.std.specs.List.{All}
-use Rattle.std.proofs.lemmas.Bool.{cond_both, cond-true, cond-false, cases_lt, and_parts, or_from, leb-true, ltb-true, ltb-false, le-leb, lt-leb}
-use Rattle.std.proofs.Math.Bool.{or-false}
+use Rattle.std.proofs.lemmas.Bool.{cond_both, cond-true, cond-false, cases_lt, ltb-true, ltb-false, le-leb, lt-leb}
 use Rattle.std.proofs.lemmas.Bool.Decides.{nat_tests}
-use Rattle.std.proofs.lemmas.List.{take-append-drop, drop_more, drop-drop, drop-take, get_or-drop, get_or-take, get_or_read, get_or_default, length-take-le, drop_at, take_at}
+use Rattle.std.proofs.lemmas.List.{take-append-drop, drop_more, drop-drop, drop-take, get_or-drop, get_or-take, get_or_read, get_or_default, length-take-le}
 use Rattle.std.proofs.lemmas.List.Elements.{All-head, All-tail, All-same, All-take, All-drop, All-weaker}
 use Rattle.std.proofs.lemmas.List.Folds.{list_any-append}
 use Rattle.gap_list.specs.declared.run.Run.{Run}
-use Rattle.gap_list.specs.Runs.{is_within, in_runs, with_range, without_range, SameSet, IsRisingFrom}
+use Rattle.gap_list.specs.Runs.{is_within, in_runs, with_range, SameSet, IsRisingFrom}
 use Rattle.gap_list.specs.Places.{end_or, start_or, last_end, kept}
 use Rattle.gap_list.proofs.RunLemmas.{IsRisingFrom-lower}
-use Rattle.gap_list.proofs.SearchLemmas.{last_end-rises, last_end-at, below_run}
-use Rattle.gap_list.proofs.RisingLemmas.{beyond, rising_front, rising_rest, rising_append, beyond_ends, past_ends, edges_rise}
+use Rattle.gap_list.proofs.SearchLemmas.{last_end-rises, last_end-at}
+use Rattle.gap_list.proofs.RisingLemmas.{beyond, rising_front, rising_rest, rising_append, beyond_ends, edges_rise}
 
 -- runs with a range, and without one
 pub record IsAdded (old new : List Run) (start end : ℕ) : Type 0 where

@@ -1,8 +1,8 @@
 -- What blocks keep through an edit.
-use Rattle.std.proofs.Common.{◌≡◌, ℕ, zero, suc, ◌+◌, ◌-◌, ◌<◌, ◌≤◌, List, [], ◌∷◌, ◌++◌, length, get_or, set, take, drop, refl, ap, sym, ◌∙◌, arith, subst, append_assoc, add-one, length-append, length-set, vec_len, vec_capacity}
+use Rattle.std.proofs.Common.{◌≡◌, ℕ, suc, ◌+◌, ◌-◌, ◌<◌, ◌≤◌, List, [], ◌∷◌, ◌++◌, length, get_or, set, take, drop, refl, ap, sym, ◌∙◌, arith, subst, append_assoc, add-one, length-append, length-set, vec_len, vec_capacity}
 use Rattle.std.specs.List.{All}
 use Rattle.std.proofs.lemmas.List.{take-append-le, drop-append-le, set-append_left, take-set, drop-set-lt, get_or_append_left, get_or_at}
-use Rattle.std.proofs.lemmas.List.Elements.{All-append, All-same, All-take, All-drop, All-set, All-push, All-weaker}
+use Rattle.std.proofs.lemmas.List.Elements.{All-append, All-same, All-take, All-drop, All-set, All-weaker}
 use Rattle.gap_list.specs.declared.run.Run.{Run}
 use Rattle.gap_list.specs.declared.blocks.Blocks.{Blocks}
 use Rattle.gap_list.specs.Blocks.{Block, blocks_of, spare, IsKept}

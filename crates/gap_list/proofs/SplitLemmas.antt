@@ -1,13 +1,13 @@
 -- A block is split or gets room.
-use Rattle.std.proofs.Common.{◌≡◌, ℕ, zero, suc, ◌+◌, ◌-◌, ◌<◌, ◌≤◌, List, [], ◌∷◌, ◌++◌, length, get_or, set, take, drop, refl, ap, sym, ◌∙◌, arith, subst, append_assoc, append-nil, add-one, length-append, length-set, vec_len, vec_capacity}
+use Rattle.std.proofs.Common.{◌≡◌, ℕ, zero, suc, ◌+◌, ◌-◌, ◌<◌, ◌≤◌, List, [], ◌∷◌, ◌++◌, length, get_or, set, take, drop, refl, ap, sym, ◌∙◌, arith, subst, append_assoc, add-one, length-append, length-set, vec_len, vec_capacity}
 use Rattle.std.specs.List.{All, insert}
-use Rattle.std.proofs.lemmas.List.{take-append-le, drop-append-le, set-append_left, take_more_set, drop-set-lt, set_split, take_at, take-append-drop, drop_all}
-use Rattle.std.proofs.lemmas.List.Edits.{length-insert, insert_end}
-use Rattle.std.proofs.lemmas.List.Elements.{All-append, All-same, All-take, All-drop, All-set, All-cons, All-nil, All-push, All-weaker}
+use Rattle.std.proofs.lemmas.List.{take-append-le, drop-append-le, drop-set-lt, set_split, take_at, take-append-drop, drop_all}
+use Rattle.std.proofs.lemmas.List.Edits.{length-insert}
+use Rattle.std.proofs.lemmas.List.Elements.{All-append, All-same, All-take, All-drop, All-set, All-cons, All-nil, All-push}
 use Rattle.gap_list.specs.declared.run.Run.{Run}
 use Rattle.gap_list.specs.declared.blocks.Blocks.{Blocks}
 use Rattle.gap_list.specs.Blocks.{Block, blocks_of, in_order, runs_at, spare, IsKept}
-use Rattle.gap_list.proofs.BlockLemmas.{all_in_order, split_order, at_below}
+use Rattle.gap_list.proofs.BlockLemmas.{split_order, at_below}
 use Rattle.gap_list.proofs.KeptLemmas.{set_below, kept_empty}
 
 -- all blocks but one have room, and so has the one that takes its place

@@ -1,5 +1,4 @@
-use Rattle.std.proofs.Common.{ℕ, ◌<◌, ◌≤◌, take, drop, List}
-use Rattle.std.specs.List.{All}
+use Rattle.std.proofs.Common.{ℕ, take, drop, List}
 use Rattle.gap_list.specs.declared.run.Run.{Run}
 use Rattle.gap_list.specs.Blocks.{all_runs, index_of}
 use Rattle.gap_list.proofs.SearchLemmas.{start_or-after, gap_end-missing, gap_end-stops, begun_where_ended, begins_where_missing, missing_rest, rising_take}

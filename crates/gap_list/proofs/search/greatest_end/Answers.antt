@@ -1,4 +1,4 @@
-use Rattle.std.proofs.Common.{◌∙◌, ap, sym, arith, subst, length, vec_len, List}
+use Rattle.std.proofs.Common.{◌∙◌, ap, sym, arith, subst, vec_len}
 use Rattle.std.proofs.lemmas.Bool.{eqb-true, eqb-false}
 use Rattle.gap_list.specs.Blocks.{all_runs, in_order}
 use Rattle.gap_list.specs.Places.{last_end}

@@ -1,4 +1,4 @@
-use Rattle.std.proofs.Common.{◌≤◌, ◌<◌, ◌++◌, ◌-◌, ◌+◌, ◌≡◌, ℕ, List, length, take, drop, ap, sym, ◌∙◌, arith, subst, refl}
+use Rattle.std.proofs.Common.{◌++◌, ◌-◌, ◌≡◌, ℕ, List, length, take, drop, sym, ◌∙◌, arith, subst, refl}
 use Rattle.std.proofs.lemmas.Result.{on_ok_weaker}
 use Rattle.gap_list.specs.declared.run.Run.{Run}
 use Rattle.gap_list.specs.Blocks.{all_runs, blocks_of, index_of}

@@ -1,4 +1,4 @@
-use Rattle.std.proofs.Common.{ℕ, ◌≤◌, ◌<◌, List, take, drop, sym, arith, length}
+use Rattle.std.proofs.Common.{arith}
 use Rattle.gap_list.specs.Blocks.{all_runs, blocks_of, index_of}
 use Rattle.gap_list.proofs.BlockLemmas.{place_within, all_blocks}
 use Rattle.gap_list.proofs.EditLemmas.{IsAdded, added_put, ends_before}

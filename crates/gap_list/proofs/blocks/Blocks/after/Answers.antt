@@ -1,5 +1,5 @@
-use Rattle.std.proofs.Common.{◌≡◌, ◌∙◌, ◌+◌, ◌<◌, ◌≤◌, ap, sym, arith, subst, add-one, length}
-use Rattle.gap_list.specs.Blocks.{blocks_of, runs_at}
+use Rattle.std.proofs.Common.{◌+◌, ap, arith, length}
+use Rattle.gap_list.specs.Blocks.{blocks_of}
 use Rattle.gap_list.proofs.BlockLemmas.{place_over, place_more, inside_top, filled_at, all_blocks}
 use Rattle.gap_list.proofs.blocks.Blocks.after.Goals as goal
 

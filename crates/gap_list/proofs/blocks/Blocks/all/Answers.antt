@@ -1,4 +1,4 @@
-use Rattle.std.proofs.Common.{◌++◌, ◌∙◌, ap, sym, arith, length}
+use Rattle.std.proofs.Common.{◌++◌, ◌∙◌, ap, arith, length}
 use Rattle.gap_list.specs.Blocks.{Block}
 use Rattle.gap_list.proofs.BlockLemmas.{more_in_order, all_of_blocks}
 use Rattle.gap_list.proofs.blocks.Blocks.all.Goals as goal

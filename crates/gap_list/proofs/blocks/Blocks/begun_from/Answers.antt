@@ -1,4 +1,4 @@
-use Rattle.std.proofs.Common.{ℕ, ◌≤◌, ◌<◌, List, take, drop, sym, arith, subst}
+use Rattle.std.proofs.Common.{ℕ, ◌≤◌, ◌<◌, take, drop, sym, arith, subst}
 use Rattle.std.specs.List.{All}
 use Rattle.gap_list.specs.declared.run.Run.{Run}
 use Rattle.gap_list.specs.Blocks.{all_runs, blocks_of, index_of}

@@ -1,11 +1,10 @@
-use Rattle.std.proofs.Common.{ℕ, ◌≡◌, ◌≤◌, ◌<◌, ◌+◌, ◌-◌, ◌++◌, ◌∷◌, [], ◌∙◌, List, length, get_or, set, take, drop, suc, sym, ap, subst, arith, add-one, vec_len, vec_capacity, length-append, length-set}
-use Rattle.std.specs.List.{All}
+use Rattle.std.proofs.Common.{ℕ, ◌≡◌, ◌≤◌, ◌<◌, ◌+◌, ◌++◌, ◌∷◌, [], ◌∙◌, List, length, set, take, drop, suc, sym, ap, arith, add-one, length-append, length-set}
 use Rattle.std.proofs.lemmas.List.{length-take-le}
 use Rattle.std.proofs.lemmas.List.Elements.{All-set, All-same}
 use Rattle.gap_list.specs.declared.run.Run.{Run}
-use Rattle.gap_list.specs.Blocks.{Block, all_runs, blocks_of, index_of, in_order, place_of, runs_at, spare}
+use Rattle.gap_list.specs.Blocks.{Block, all_runs, blocks_of, in_order, place_of, runs_at, spare}
 use Rattle.gap_list.proofs.BlockLemmas.{all_blocks, drained_order, place_drained, block_drained, cut_order, place_cut, block_cut, at_below}
-use Rattle.gap_list.proofs.KeptLemmas.{drained_blocks, set_below, kept_of_room, all_drained, cut_blocks, cut_spare}
+use Rattle.gap_list.proofs.KeptLemmas.{drained_blocks, kept_of_room, all_drained, cut_blocks, cut_spare}
 use Rattle.gap_list.proofs.blocks.Blocks.cut.Goals as goal
 
 -- ---- from the front of a block

@@ -1,4 +1,3 @@
-use Rattle.std.proofs.Common.{◌++◌, ◌∷◌, [], arith}
 use Rattle.gap_list.specs.Blocks.{blocks_of}
 use Rattle.gap_list.proofs.BlockLemmas.{rising_at, found_below, found_above, found_inside}
 use Rattle.gap_list.proofs.blocks.Blocks.ended_below.Goals as goal

@@ -1,4 +1,4 @@
-use Rattle.std.proofs.Common.{◌≡◌, ◌∙◌, ◌+◌, ap, sym, arith, ◌≤◌, ◌<◌, length, ⊎_elim}
+use Rattle.std.proofs.Common.{◌≡◌, ◌+◌, arith, ◌≤◌, ◌<◌, length, ⊎_elim}
 use Rattle.std.proofs.lemmas.Bool.{cases_lt}
 use Rattle.gap_list.specs.Blocks.{blocks_of, runs_at}
 use Rattle.gap_list.proofs.BlockLemmas.{first_at, none_at, all_blocks}

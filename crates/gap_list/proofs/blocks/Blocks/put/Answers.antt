@@ -1,6 +1,6 @@
-use Rattle.std.proofs.Common.{ℕ, ◌≡◌, ◌≤◌, ◌<◌, ◌+◌, ◌++◌, ◌∷◌, ◌∙◌, List, take, drop, sym, ap, arith, length}
+use Rattle.std.proofs.Common.{ℕ, ◌≡◌, ◌+◌, ◌++◌, ◌∷◌, ◌∙◌, List, take, drop, sym, ap, arith}
 use Rattle.gap_list.specs.declared.run.Run.{Run}
-use Rattle.gap_list.specs.Blocks.{all_runs, blocks_of, index_of, place_of, runs_at}
+use Rattle.gap_list.specs.Blocks.{all_runs, blocks_of, index_of, place_of}
 use Rattle.gap_list.proofs.BlockLemmas.{place_within, all_blocks, same_block, joined_runs, place_add}
 use Rattle.gap_list.proofs.blocks.Blocks.put.Goals as goal
 

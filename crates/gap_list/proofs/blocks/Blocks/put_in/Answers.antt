@@ -1,8 +1,7 @@
-use Rattle.std.proofs.Common.{ℕ, ◌≡◌, ◌≤◌, ◌<◌, ◌+◌, ◌-◌, ◌++◌, ◌∷◌, [], ◌∙◌, List, length, get_or, set, take, drop, sym, ap, subst, arith, vec_len, vec_capacity, refl, length-set}
-use Rattle.std.specs.List.{All}
-use Rattle.std.proofs.lemmas.List.Elements.{All-set, All-get_or}
+use Rattle.std.proofs.Common.{◌<◌, ◌++◌, ◌∷◌, ◌∙◌, List, length, take, drop, sym, ap, arith, refl, length-set}
+use Rattle.std.proofs.lemmas.List.Elements.{All-set}
 use Rattle.gap_list.specs.declared.run.Run.{Run}
-use Rattle.gap_list.specs.Blocks.{Block, all_runs, blocks_of, in_order, place_of, runs_at, spare}
+use Rattle.gap_list.specs.Blocks.{Block, blocks_of, in_order}
 use Rattle.gap_list.proofs.BlockLemmas.{all_blocks, put_order, at_below, at_top, set_top}
 use Rattle.gap_list.proofs.KeptLemmas.{set_below, kept_put, below_spare, top_spare, filled_put}
 use Rattle.gap_list.proofs.blocks.Blocks.put_in.Goals as goal

@@ -1,9 +1,7 @@
-use Rattle.std.proofs.Common.{ℕ, ◌≡◌, ◌<◌, ◌≤◌, ◌+◌, ◌-◌, ◌/◌, ◌∙◌, List, ◌++◌, ◌∷◌, [], ap, sym, refl, arith, length, get_or, set, drop, vec_len, vec_capacity, length-drop}
+use Rattle.std.proofs.Common.{◌≡◌, ◌<◌, ◌+◌, ◌-◌, ◌/◌, ◌∙◌, List, ◌++◌, ◌∷◌, [], ap, sym, refl, arith, length, get_or, set, drop, vec_len, length-drop}
 use Rattle.std.specs.List.{All, insert}
 use Rattle.std.proofs.lemmas.List.{get_or_read}
-use Rattle.gap_list.specs.declared.run.Run.{Run}
-use Rattle.gap_list.specs.declared.blocks.Blocks.{Blocks}
-use Rattle.gap_list.specs.Blocks.{Block, blocks_of, in_order, runs_at, spare, IsKept}
+use Rattle.gap_list.specs.Blocks.{Block, blocks_of, in_order, spare, IsKept}
 use Rattle.gap_list.proofs.BlockLemmas.{at_below}
 use Rattle.gap_list.proofs.SplitLemmas.{split_same, split_kept, lower_spare}
 use Rattle.gap_list.proofs.blocks.Blocks.split_below.Goals as goal

@@ -1,4 +1,4 @@
-use Rattle.std.proofs.Common.{ℕ, ◌≡◌, ◌<◌, ◌≤◌, ◌+◌, ◌-◌, ◌/◌, ◌++◌, ◌∷◌, [], ◌∙◌, List, ap, sym, refl, arith, length, vec_len, vec_capacity}
+use Rattle.std.proofs.Common.{ℕ, ◌≡◌, ◌<◌, ◌-◌, ◌/◌, ◌++◌, ◌∷◌, [], ◌∙◌, List, ap, refl, arith, length, vec_len}
 use Rattle.std.specs.List.{All, insert}
 use Rattle.std.proofs.lemmas.List.Edits.{insert_end}
 use Rattle.gap_list.specs.Blocks.{Block, blocks_of, spare, IsKept}

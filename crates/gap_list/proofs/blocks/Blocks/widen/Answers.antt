@@ -1,6 +1,6 @@
-use Rattle.std.proofs.Common.{ℕ, ◌≡◌, ◌<◌, ◌≤◌, ◌∙◌, ap, sym, refl, arith, length, set}
+use Rattle.std.proofs.Common.{◌∙◌, ap, sym, refl, arith, length}
 use Rattle.std.proofs.lemmas.Result.{on_ok_weaker}
-use Rattle.gap_list.specs.Blocks.{Block, blocks_of, runs_at}
+use Rattle.gap_list.specs.Blocks.{Block}
 use Rattle.gap_list.proofs.BlockLemmas.{at_below}
 use Rattle.gap_list.proofs.SplitLemmas.{widened_order, widened_spare, widened_filled, kept_none, top_spares, kept_top}
 use Rattle.gap_list.proofs.blocks.Blocks.widen.Goals as goal
