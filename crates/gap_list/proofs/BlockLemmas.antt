@@ -559,3 +559,8 @@ pub all_of_blocks : (below : List Block) (top : Block) (number : ℕ) (runs : Li
     → runs ++ top.items ≡ in_order (below ++ top ∷ [])
 all_of_blocks below top number runs past is =
     ap (λ (l : List Run). l ++ top.items) (is ∙ ap in_order (take_all number below past)) ∙ sym (all_in_order below top)
+
+-- where there is one block, its runs are all
+pub only_top : (below : List Block) (top : Block) → length below ≡ 0 → in_order (below ++ top ∷ []) ≡ top.items
+only_top [] top none = append-nil top.items
+only_top (block ∷ below) top none = absurd (omega arith)

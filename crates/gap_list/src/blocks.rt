@@ -235,8 +235,8 @@ impl Blocks {
         }
     }
 
-    /// Adds a range, merging it with the runs that it touches, without allocating.
-    pub fn add(&mut self, start: u32, end: u32)
+    // Adds a range, merging it with the runs that it touches, in whatever blocks these are.
+    fn add_among(&mut self, start: u32, end: u32)
         requires filled { start < end }
         requires rising { IsRisingFrom 0 (all_runs self.old) }
         requires kept { IsKept self.old }
@@ -254,6 +254,41 @@ impl Blocks {
         };
         let last = self.begun_from(last, end);
         self.put(first, last, joined);
+    }
+
+    // Adds a range to the only block.
+    fn add_to_top(&mut self, start: u32, end: u32)
+        requires one { length self.old.below.items ≡ 0 }
+        requires filled { start < end }
+        requires rising { IsRisingFrom 0 (all_runs self.old) }
+        requires kept { IsKept self.old }
+        requires room { 0 < self.old.room }
+        ensures rising { IsRisingFrom 0 (all_runs self.new) }
+        ensures kept { IsKept self.new }
+        ensures added { SameSet (in_runs (all_runs self.new)) (with_range (in_runs (all_runs self.old)) start end) }
+        ensures room { self.new.room + 1 ≡ self.old.room }
+    {
+        self.changed = 0;
+        self.room -= 1;
+        edit::add(&mut self.top, start, end);
+    }
+
+    /// Adds a range, merging it with the runs that it touches, without allocating.
+    pub fn add(&mut self, start: u32, end: u32)
+        requires filled { start < end }
+        requires rising { IsRisingFrom 0 (all_runs self.old) }
+        requires kept { IsKept self.old }
+        requires room { 0 < self.old.room }
+        ensures rising { IsRisingFrom 0 (all_runs self.new) }
+        ensures kept { IsKept self.new }
+        ensures added { SameSet (in_runs (all_runs self.new)) (with_range (in_runs (all_runs self.old)) start end) }
+        ensures room { self.new.room + 1 ≡ self.old.room }
+    {
+        if self.below.is_empty() {
+            self.add_to_top(start, end);
+        } else {
+            self.add_among(start, end);
+        }
     }
 
     // Splits a block below the top one.
