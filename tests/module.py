@@ -176,11 +176,10 @@ def the_loop_of_the_examples():
 
 @case
 def a_package_from_this_checkout():
-    for name in ("pip", "setuptools", "wheel"):
-        if importlib.util.find_spec(name) is None:
-            raise Skipped(f"Python has no {name} here")
+    if importlib.util.find_spec("pip") is None:
+        raise Skipped("Python has no pip here")
     subprocess.run(["cp", "-r", f"{TOP}/python", "source"], check=True)
-    words = [sys.executable, "-m", "pip", "install", "-q", "--no-index", "--no-build-isolation", "--no-deps", "--target", "there", "./source"]
+    words = [sys.executable, "-m", "pip", "install", "-q", "--no-index", "--target", "there", "./source"]
     run = subprocess.run(words, capture_output=True, text=True, check=False, timeout=300)
     want((run.returncode, run.stderr if run.returncode else ""), (0, ""))
     text = "import cfdp, importlib.metadata as m; print(cfdp.__file__); print(cfdp.__version__, m.version('cfdp'))"
