@@ -28,6 +28,12 @@ gcc "${flags[@]}" "${checked[@]}" examples/c/loopback.c build/libcfdp.a -o "$roo
 timeout 60 "$room/loopback" > "$room/looped"
 diff "$room/looped" examples/c/loopback.printed
 
+# without a heap: the library takes no memory but the program's, and says when it runs out
+gcc "${flags[@]}" "${checked[@]}" examples/c/arena.c build/libcfdp.a -o "$room/arena"
+timeout 60 "$room/arena" > "$room/looped"
+diff "$room/looped" examples/c/arena.printed
+if nm "$room/arena" | grep -E ' U (malloc|realloc)(@|$)'; then exit 1; fi
+
 # every script, as cfdp_replay prints it
 gcc "${flags[@]}" -O2 tests/script_player.c build/libcfdp.a -o "$room/player"
 timeout 600 tests/scripts.py "$room/player"

@@ -52,6 +52,12 @@ echo "libcfdp 0 libcfdp0 (>= $version)" > "$room/libcfdp0/DEBIAN/shlibs"
 pack libcfdp0 libs libc6 "CCSDS File Delivery Protocol: an entity as a library"
 pack libcfdp-dev libdevel "libcfdp0 (= $version)" "CCSDS File Delivery Protocol: header and static library"
 
+# what dpkg does with the library: the loader's cache is made anew, and each call of the header is a symbol with its version
+dpkg-deb --info "$top/out/libcfdp0_${version}_$machine.deb" triggers | grep -qx 'activate-noawait ldconfig'
+for name in $(grep -oE '^(int32_t|uint32_t) cfdp_[a-z_]+\(' "$top/include/cfdp.h" | grep -oE 'cfdp_[a-z_]+'); do
+    dpkg-deb --info "$top/out/libcfdp0_${version}_$machine.deb" symbols | grep -qx " $name@Base $version" || { echo "no symbol $name"; exit 1; }
+done
+
 # an example against what was installed
 there=$room/there
 gcc "$top/examples/c/loopback.c" -I"$there/usr/include" -L"$there$folder" -lcfdp -o "$room/loopback"

@@ -13,14 +13,18 @@ version=$(sed -n 's/.*concat!(\$before, "\([^"]*\)", \$after).*/\1/p' "$top/crat
 mkdir -p "$room"
 rm -f "$room"/libcfdp.* "$room"/cfdp.*
 
-# one archive of both
+# one archive of both. Memory comes from cfdp_malloc, cfdp_realloc and cfdp_free: a program's own, or those of tools/heap.c
 objects=$(mktemp -d)
 trap 'rm -rf "$objects"' EXIT
 (cd "$objects" && ar x "$archive" && ar x "$heap")
+for object in "$objects"/*.o; do
+    objcopy --redefine-sym malloc=cfdp_malloc --redefine-sym realloc=cfdp_realloc --redefine-sym free=cfdp_free "$object"
+done
+cc -O2 -fPIC -Wall -Wextra -Werror -c "$top/tools/heap.c" -o "$objects/cfdp_heap.o"
 ar rcs "$room/libcfdp.a" "$objects"/*.o
 
 # a shared object that has the names of the header and no others
-printf '{ global: cfdp_*; local: *; };\n' > "$objects/names"
+printf '{ global: cfdp_*; local: cfdp_malloc; cfdp_realloc; cfdp_free; *; };\n' > "$objects/names"
 cc -shared -o "$room/libcfdp.so.0" -Wl,--whole-archive "$room/libcfdp.a" -Wl,--no-whole-archive \
     -Wl,-soname,libcfdp.so.0 -Wl,-z,defs -Wl,-z,relro -Wl,-z,now -Wl,--version-script,"$objects/names"
 ln -s libcfdp.so.0 "$room/libcfdp.so"
