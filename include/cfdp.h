@@ -10,19 +10,26 @@
  *     if (cfdp_deliver(&entity, datagram, length, &done) == CFDP_OK) {
  *         for (size_t i = 0; i < done.pdus; i++) {
  *             cfdp_pdu(&entity, i, buffer, sizeof buffer, &count);     send these octets
- *         }
- *         for (size_t i = 0; i < done.timers; i++) {
- *             cfdp_timer_op(&entity, i, &op);                          start or stop this timer
+ *             cfdp_pdu_destination(&entity, i, &peer);                 to this entity
  *         }
  *         if (done.deposit) {
  *             cfdp_deposit(&entity, &deposit);                         store this file, then call cfdp_stored
  *         }
  *     }
+ *     while (cfdp_tick(&entity, now, &done) == CFDP_OK) ..             the same for each timer that has expired
+ *     while (cfdp_next_pump(&entity, &txn) == CFDP_OK)
+ *         cfdp_pump(&entity, txn.source, txn.seq, &done);              and the same for each PDU of files that are sent
+ *
+ * A program with timers of its own never calls cfdp_tick. It starts and stops them by cfdp_timer_op, and calls
+ * cfdp_timer for each that expires.
  *
  * Handles. The caller owns the cfdp_t, which holds nothing but a pointer. It starts as CFDP_INIT, or all zeros, which
  * is a closed handle; cfdp_open opens it, and cfdp_close frees all that it holds. With a closed handle every other call
  * returns CFDP_CLOSED; a number out of range, or a lack of memory, may be returned in its place. Never copy an open
- * handle, and never write its fields.
+ * handle, and never write its fields. Every other struct of this header holds numbers alone, and may be copied.
+ *
+ * A call that takes a const handle leaves the entity as it is. It needs the handle for itself all the same, as every
+ * call does, and the handle may not be in memory that can't be written.
  *
  * Lifetimes. What an event left (PDUs, timer operations, the deposit) is kept until the next event; the bundle that was
  * taken last until the next one is taken; the file that was asked for last until the next one. Everything is copied into
@@ -31,6 +38,11 @@
  * Memory that is passed. No two pointers of one call may overlap. For a null pointer a call returns CFDP_NULL, except
  * beside a length of 0. Define CFDP_UNCHECKED before the header is included to leave these tests out; then no pointer may be
  * null, not even beside a length of 0.
+ *
+ * Compatibility. Programs that were compiled with this header run with every later libcfdp.so.0: no struct, constant or
+ * call of the header changes as long as the number in that name does, and new ones are only added. What is new comes by
+ * calls of its own, so no struct grows. A call that a program uses has to be in the library that it loads: the package's
+ * symbols file says since when each is there.
  *
  * Threads. Different handles may be used by different threads at once. One handle is used by one thread at a time, and
  * may move between threads under a lock. No call may come from a signal handler, or from the forked child of a process
@@ -76,7 +88,7 @@ typedef struct cfdp {
 enum {
     CFDP_OK = 0,                   /* the call did its work; for an event: the entity took it */
     CFDP_REFUSED = 1,              /* the entity refused the event: `refusal` says why, and nothing else changed */
-    CFDP_NOTHING = 2,              /* there is no such thing: no bundle waits, or the index is too large */
+    CFDP_NOTHING = 2,              /* there is no such thing: no bundle or timer waits, or the index is too large */
     CFDP_CLOSED = -1,              /* the handle is closed */
     CFDP_OPEN = -2,                /* the handle is open already */
     CFDP_NO_MEMORY = -3,           /* memory ran out */
@@ -118,6 +130,19 @@ enum { CFDP_ACTIVE = 1, CFDP_IS_SUSPENDED = 2, CFDP_STORING = 3, CFDP_CLOSING = 
 /* Delivery codes and file statuses, as in a Finished PDU. */
 enum { CFDP_COMPLETE = 0, CFDP_INCOMPLETE = 1 };
 enum { CFDP_DISCARDED = 0, CFDP_REJECTED = 1, CFDP_RETAINED = 2, CFDP_UNREPORTED = 3 };
+
+/* A transaction: its source entity and its number. */
+typedef struct cfdp_txn_t {
+    uint64_t source;
+    uint64_t seq;
+} cfdp_txn_t;
+
+/* A remote entity of the configuration. */
+#define CFDP_NO_USER SIZE_MAX
+typedef struct cfdp_remote_t {
+    uint64_t id;
+    size_t user; /* the number of the user that gets its files, or CFDP_NO_USER */
+} cfdp_remote_t;
 
 /* What an event left. */
 typedef struct cfdp_done_t {
@@ -187,6 +212,13 @@ typedef struct cfdp_indication_t {
 int32_t cfdp_open(cfdp_t *handle, const uint8_t *text, size_t text_len, uint32_t *fault, uint8_t *place, size_t room,
                   size_t *place_len);
 
+/*
+ * Copies a sentence that says why cfdp_open refuses this text: the line, the table, the key, what is found there, and what is
+ * allowed, as cfdp_server says it. It ends without an octet 0. CFDP_NOTHING if the text is not refused; also CFDP_NO_ROOM,
+ * and 600 octets are enough for most, CFDP_NO_MEMORY.
+ */
+int32_t cfdp_explain(const uint8_t *text, size_t text_len, uint8_t *buffer, size_t room, size_t *len);
+
 /* Closes a handle and frees the entity, with all files in transit. Also CFDP_CLOSED. */
 int32_t cfdp_close(cfdp_t *handle);
 
@@ -230,17 +262,56 @@ int32_t cfdp_timer(cfdp_t *handle, uint64_t source, uint64_t seq, uint32_t kind,
 int32_t cfdp_stored(cfdp_t *handle, uint64_t source, uint64_t seq, uint32_t stamp, bool kept, cfdp_done_t *done);
 
 /*
+ * Time and turns, for programs that leave them to the library.
+ */
+
+/*
+ * It is `now`, in milliseconds on any clock of the program's that never goes back. If a timer has expired, the entity
+ * gets the first such timer, as by cfdp_timer: CFDP_OK or CFDP_REFUSED, and `done` is filled. Carry out what it left, and
+ * call again until it returns CFDP_NOTHING, which leaves `done` as it was. Timers stand in the order in which they were
+ * started; one that is started anew while it runs keeps its place.
+ *
+ * From the first call on, the library keeps the timers of all later events: each is started at the time of the last
+ * call. So call once after cfdp_open, and again whenever the program wakes up, before it passes other events. Timers
+ * that an event started before the first call are not kept.
+ *
+ * If the entity refuses a timer since memory ran out or a queue is full (refusals 12 and 13), the timer goes back, behind
+ * the others, and has still expired: take indications, then call again. With another refusal it is gone. CFDP_NO_MEMORY
+ * if there was no memory to start a timer of the event before: nothing else has changed, and the call may be made again.
+ * The same holds for every event then; no timer is lost.
+ */
+int32_t cfdp_tick(cfdp_t *handle, uint64_t now, cfdp_done_t *done);
+
+/*
+ * A time before which no timer expires, so that cfdp_tick need not be called before. It is the time at which the first
+ * one expires, or an earlier one if a timer was stopped or started anew since: at that time cfdp_tick returns CFDP_NOTHING,
+ * and the next answer is exact. CFDP_NOTHING if no timer runs. Also CFDP_NO_MEMORY, as cfdp_tick.
+ */
+int32_t cfdp_next_deadline(cfdp_t *handle, uint64_t *deadline);
+
+/*
+ * The transaction to call cfdp_pump for next: of those that may have something to send, the first from the sending lane
+ * on whose turn it is, round all lanes of all users. A call of cfdp_pump passes the turn to the lane behind that of its
+ * transaction. A transaction may have something to send after each of its events that the entity took, until a pump is
+ * refused for another reason than memory and full queues. CFDP_NOTHING if none may.
+ */
+int32_t cfdp_next_pump(const cfdp_t *handle, cfdp_txn_t *txn);
+
+/*
  * What the last event left, by index from 0; CFDP_NOTHING if the index is too large.
  */
 
 /* Copies a PDU. A buffer of CFDP_PDU_MAX octets is enough. Also CFDP_NO_ROOM, CFDP_NO_MEMORY. */
-int32_t cfdp_pdu(cfdp_t *handle, size_t index, uint8_t *buffer, size_t room, size_t *len);
+int32_t cfdp_pdu(const cfdp_t *handle, size_t index, uint8_t *buffer, size_t room, size_t *len);
+
+/* Returns the ID of the entity to which that PDU goes: cfdp_address has its address. */
+int32_t cfdp_pdu_destination(const cfdp_t *handle, size_t index, uint64_t *id);
 
 /* Returns a timer operation. Carry them out in order. */
-int32_t cfdp_timer_op(cfdp_t *handle, size_t index, cfdp_timer_op_t *op);
+int32_t cfdp_timer_op(const cfdp_t *handle, size_t index, cfdp_timer_op_t *op);
 
 /* Returns the deposit, if done.deposit was 1. */
-int32_t cfdp_deposit(cfdp_t *handle, cfdp_deposit_t *deposit);
+int32_t cfdp_deposit(const cfdp_t *handle, cfdp_deposit_t *deposit);
 
 /*
  * Gets the file of a waiting deposit, keeps it, and returns its lengths. CFDP_REFUSED if no such deposit waits, or
@@ -253,7 +324,7 @@ int32_t cfdp_image(cfdp_t *handle, uint64_t source, uint64_t seq, uint32_t stamp
  * content (2). Copies as many as there are and as the buffer holds, and says how many. CFDP_NOTHING if the offset is
  * beyond the end.
  */
-int32_t cfdp_image_octets(cfdp_t *handle, size_t part, size_t offset, uint8_t *buffer, size_t room, size_t *len);
+int32_t cfdp_image_octets(const cfdp_t *handle, size_t part, size_t offset, uint8_t *buffer, size_t room, size_t *len);
 
 /*
  * Indications wait in a queue for each user, in bundles. While a queue is full, events that would add to it are refused
@@ -264,14 +335,31 @@ int32_t cfdp_image_octets(cfdp_t *handle, size_t part, size_t offset, uint8_t *b
 int32_t cfdp_take(cfdp_t *handle, size_t user, cfdp_bundle_t *bundle);
 
 /* Returns an indication of the bundle that was taken last. */
-int32_t cfdp_indication(cfdp_t *handle, size_t index, cfdp_indication_t *indication);
+int32_t cfdp_indication(const cfdp_t *handle, size_t index, cfdp_indication_t *indication);
 
 /* Copies a text of an indication of that bundle: see `parts`. Also CFDP_NO_ROOM; 255 octets are enough. */
-int32_t cfdp_octets(cfdp_t *handle, size_t index, size_t part, uint8_t *buffer, size_t room, size_t *len);
+int32_t cfdp_octets(const cfdp_t *handle, size_t index, size_t part, uint8_t *buffer, size_t room, size_t *len);
+
+/*
+ * What the configuration says.
+ */
 
 /* The number of users, and of the sending lanes of each user. */
-int32_t cfdp_users(cfdp_t *handle, size_t *count);
-int32_t cfdp_put_lanes(cfdp_t *handle, size_t *count);
+int32_t cfdp_users(const cfdp_t *handle, size_t *count);
+int32_t cfdp_put_lanes(const cfdp_t *handle, size_t *count);
+
+/* Copies the name of a user, by its number. CFDP_NOTHING if there is none; also CFDP_NO_ROOM, and 32 octets are enough. */
+int32_t cfdp_user_name(const cfdp_t *handle, size_t user, uint8_t *buffer, size_t room, size_t *len);
+
+/* The number of remote entities, and one of them by its place. */
+int32_t cfdp_remotes(const cfdp_t *handle, size_t *count);
+int32_t cfdp_remote(const cfdp_t *handle, size_t index, cfdp_remote_t *remote);
+
+/*
+ * Copies the address of the remote entity with this ID as the configuration has it: A.B.C.D:PORT, without an octet 0 at
+ * its end. CFDP_NOTHING if there is no such entity; also CFDP_NO_ROOM, and 21 octets are enough.
+ */
+int32_t cfdp_address(const cfdp_t *handle, uint64_t id, uint8_t *buffer, size_t room, size_t *len);
 
 /* Copies the name of a code of the library, or of a refusal; CFDP_NOTHING for other numbers. 24 octets are enough. */
 int32_t cfdp_error_name(int32_t code, uint8_t *buffer, size_t room, size_t *len);
@@ -405,6 +493,11 @@ static inline int32_t cfdp_checked_open(cfdp_t *h, const uint8_t *text, size_t l
     if (!h || (!text && len) || !fault || (!place && room) || !place_len) return CFDP_NULL;
     return cfdp_open(h, cfdp_some(text), len, fault, place ? place : none, room, place_len);
 }
+static inline int32_t cfdp_checked_explain(const uint8_t *text, size_t text_len, uint8_t *buffer, size_t room, size_t *len) {
+    uint8_t none[1];
+    if ((!text && text_len) || (!buffer && room) || !len) return CFDP_NULL;
+    return cfdp_explain(cfdp_some(text), text_len, buffer ? buffer : none, room, len);
+}
 static inline int32_t cfdp_checked_close(cfdp_t *h) { return h ? cfdp_close(h) : CFDP_NULL; }
 static inline int32_t cfdp_checked_deliver(cfdp_t *h, const uint8_t *octets, size_t len, cfdp_done_t *done) {
     return h && (octets || !len) && done ? cfdp_deliver(h, cfdp_some(octets), len, done) : CFDP_NULL;
@@ -440,20 +533,20 @@ static inline int32_t cfdp_checked_stored(cfdp_t *h, uint64_t source, uint64_t s
                                           cfdp_done_t *done) {
     return h && done ? cfdp_stored(h, source, seq, stamp, kept, done) : CFDP_NULL;
 }
-static inline int32_t cfdp_checked_pdu(cfdp_t *h, size_t index, uint8_t *buffer, size_t room, size_t *len) {
+static inline int32_t cfdp_checked_pdu(const cfdp_t *h, size_t index, uint8_t *buffer, size_t room, size_t *len) {
     uint8_t none[1];
     return h && (buffer || !room) && len ? cfdp_pdu(h, index, buffer ? buffer : none, room, len) : CFDP_NULL;
 }
-static inline int32_t cfdp_checked_timer_op(cfdp_t *h, size_t index, cfdp_timer_op_t *op) {
+static inline int32_t cfdp_checked_timer_op(const cfdp_t *h, size_t index, cfdp_timer_op_t *op) {
     return h && op ? cfdp_timer_op(h, index, op) : CFDP_NULL;
 }
-static inline int32_t cfdp_checked_deposit(cfdp_t *h, cfdp_deposit_t *deposit) {
+static inline int32_t cfdp_checked_deposit(const cfdp_t *h, cfdp_deposit_t *deposit) {
     return h && deposit ? cfdp_deposit(h, deposit) : CFDP_NULL;
 }
 static inline int32_t cfdp_checked_image(cfdp_t *h, uint64_t source, uint64_t seq, uint32_t stamp, cfdp_image_t *image) {
     return h && image ? cfdp_image(h, source, seq, stamp, image) : CFDP_NULL;
 }
-static inline int32_t cfdp_checked_image_octets(cfdp_t *h, size_t part, size_t offset, uint8_t *buffer, size_t room,
+static inline int32_t cfdp_checked_image_octets(const cfdp_t *h, size_t part, size_t offset, uint8_t *buffer, size_t room,
                                                 size_t *len) {
     uint8_t none[1];
     return h && (buffer || !room) && len ? cfdp_image_octets(h, part, offset, buffer ? buffer : none, room, len) : CFDP_NULL;
@@ -461,16 +554,42 @@ static inline int32_t cfdp_checked_image_octets(cfdp_t *h, size_t part, size_t o
 static inline int32_t cfdp_checked_take(cfdp_t *h, size_t user, cfdp_bundle_t *bundle) {
     return h && bundle ? cfdp_take(h, user, bundle) : CFDP_NULL;
 }
-static inline int32_t cfdp_checked_indication(cfdp_t *h, size_t index, cfdp_indication_t *indication) {
+static inline int32_t cfdp_checked_indication(const cfdp_t *h, size_t index, cfdp_indication_t *indication) {
     return h && indication ? cfdp_indication(h, index, indication) : CFDP_NULL;
 }
-static inline int32_t cfdp_checked_octets(cfdp_t *h, size_t index, size_t part, uint8_t *buffer, size_t room, size_t *len) {
+static inline int32_t cfdp_checked_octets(const cfdp_t *h, size_t index, size_t part, uint8_t *buffer, size_t room, size_t *len) {
     uint8_t none[1];
     return h && (buffer || !room) && len ? cfdp_octets(h, index, part, buffer ? buffer : none, room, len) : CFDP_NULL;
 }
-static inline int32_t cfdp_checked_users(cfdp_t *h, size_t *count) { return h && count ? cfdp_users(h, count) : CFDP_NULL; }
-static inline int32_t cfdp_checked_put_lanes(cfdp_t *h, size_t *count) {
+static inline int32_t cfdp_checked_users(const cfdp_t *h, size_t *count) { return h && count ? cfdp_users(h, count) : CFDP_NULL; }
+static inline int32_t cfdp_checked_put_lanes(const cfdp_t *h, size_t *count) {
     return h && count ? cfdp_put_lanes(h, count) : CFDP_NULL;
+}
+static inline int32_t cfdp_checked_tick(cfdp_t *h, uint64_t now, cfdp_done_t *done) {
+    return h && done ? cfdp_tick(h, now, done) : CFDP_NULL;
+}
+static inline int32_t cfdp_checked_next_deadline(cfdp_t *h, uint64_t *deadline) {
+    return h && deadline ? cfdp_next_deadline(h, deadline) : CFDP_NULL;
+}
+static inline int32_t cfdp_checked_next_pump(const cfdp_t *h, cfdp_txn_t *txn) {
+    return h && txn ? cfdp_next_pump(h, txn) : CFDP_NULL;
+}
+static inline int32_t cfdp_checked_pdu_destination(const cfdp_t *h, size_t index, uint64_t *id) {
+    return h && id ? cfdp_pdu_destination(h, index, id) : CFDP_NULL;
+}
+static inline int32_t cfdp_checked_user_name(const cfdp_t *h, size_t user, uint8_t *buffer, size_t room, size_t *len) {
+    uint8_t none[1];
+    return h && (buffer || !room) && len ? cfdp_user_name(h, user, buffer ? buffer : none, room, len) : CFDP_NULL;
+}
+static inline int32_t cfdp_checked_remotes(const cfdp_t *h, size_t *count) {
+    return h && count ? cfdp_remotes(h, count) : CFDP_NULL;
+}
+static inline int32_t cfdp_checked_remote(const cfdp_t *h, size_t index, cfdp_remote_t *remote) {
+    return h && remote ? cfdp_remote(h, index, remote) : CFDP_NULL;
+}
+static inline int32_t cfdp_checked_address(const cfdp_t *h, uint64_t id, uint8_t *buffer, size_t room, size_t *len) {
+    uint8_t none[1];
+    return h && (buffer || !room) && len ? cfdp_address(h, id, buffer ? buffer : none, room, len) : CFDP_NULL;
 }
 static inline int32_t cfdp_checked_error_name(int32_t code, uint8_t *buffer, size_t room, size_t *len) {
     uint8_t none[1];
@@ -482,6 +601,7 @@ static inline int32_t cfdp_checked_refusal_name(uint32_t refusal, uint8_t *buffe
 }
 
 #define cfdp_open cfdp_checked_open
+#define cfdp_explain cfdp_checked_explain
 #define cfdp_close cfdp_checked_close
 #define cfdp_deliver cfdp_checked_deliver
 #define cfdp_put cfdp_checked_put
@@ -501,6 +621,14 @@ static inline int32_t cfdp_checked_refusal_name(uint32_t refusal, uint8_t *buffe
 #define cfdp_octets cfdp_checked_octets
 #define cfdp_users cfdp_checked_users
 #define cfdp_put_lanes cfdp_checked_put_lanes
+#define cfdp_tick cfdp_checked_tick
+#define cfdp_next_deadline cfdp_checked_next_deadline
+#define cfdp_next_pump cfdp_checked_next_pump
+#define cfdp_pdu_destination cfdp_checked_pdu_destination
+#define cfdp_user_name cfdp_checked_user_name
+#define cfdp_remotes cfdp_checked_remotes
+#define cfdp_remote cfdp_checked_remote
+#define cfdp_address cfdp_checked_address
 #define cfdp_error_name cfdp_checked_error_name
 #define cfdp_refusal_name cfdp_checked_refusal_name
 

@@ -97,6 +97,14 @@ static void tell_left(cfdp_t *entity, int32_t code, const cfdp_done_t *done) {
         say("%d\n", code); \
     } while (0)
 
+/* Tells before when no timer expires. */
+static void tell_deadline(cfdp_t *entity) {
+    uint64_t deadline = 0;
+    int32_t code = cfdp_next_deadline(entity, &deadline);
+    if (again(code, NULL)) code = cfdp_next_deadline(entity, &deadline);
+    say("%d: %llu\n", code, (unsigned long long)deadline);
+}
+
 static void receive(cfdp_t *entity) {
     cfdp_image_t image;
     uint8_t octets[8];
@@ -130,8 +138,10 @@ static void listen_to(cfdp_t *entity) {
 static void run(cfdp_t *entity) {
     static const uint8_t name[] = { 'n' }, file[] = { 1, 2, 3 };
     DO(cfdp_open_text(entity, CONFIGURATION));
+    TELL(cfdp_tick(entity, 1000, &done));
     receive(entity);
     listen_to(entity);
+    TELL(cfdp_tick(entity, 1300, &done));
     DO(cfdp_message(entity, name, 1));
     cfdp_done_t done = { 0 };
     int32_t code = cfdp_put(entity, 0, 0, 1, 2, false, name, 1, name, 1, file, 3, &done);
@@ -142,6 +152,13 @@ static void run(cfdp_t *entity) {
     }
     tell_left(entity, code, &done);
     for (int i = 0; i < 4; i++) TELL(cfdp_pump(entity, 2, 4, &done));
+    tell_deadline(entity);
+    /* one timer expires at a time, since one that is refused for want of memory goes behind the others */
+    TELL(cfdp_tick(entity, 1900, &done));
+    TELL(cfdp_tick(entity, 2000, &done));
+    tell_deadline(entity);
+    TELL(cfdp_tick(entity, 2300, &done));
+    tell_deadline(entity);
     TELL(cfdp_request(entity, 0, CFDP_CANCEL, 2, 4, &done));
     listen_to(entity);
     DO(cfdp_close(entity));
@@ -181,7 +198,12 @@ static void wrong_handles(void) {
     cfdp_deposit_t deposit;
     cfdp_indication_t told;
     cfdp_timer_op_t op;
+    cfdp_txn_t txn;
+    cfdp_remote_t remote;
+    uint64_t number = 77;
     CHECK(sizeof(cfdp_t) == 16 && sizeof(cfdp_done_t) == 48 && sizeof(cfdp_timer_op_t) == 32);
+    CHECK(sizeof(cfdp_txn_t) == 16 && sizeof(cfdp_remote_t) == 16 && sizeof(cfdp_bundle_t) == 40 && sizeof(cfdp_image_t) == 32);
+    CHECK(sizeof(cfdp_indication_t) == 56 && sizeof(cfdp_deposit_t) == 24);
     CHECK(cfdp_close(&entity) == CFDP_CLOSED);
     CHECK(cfdp_deliver(&entity, OCTETS, sizeof OCTETS, &done) == CFDP_CLOSED && done.refusal == 99);
     CHECK(cfdp_pump(&entity, 1, 1, &done) == CFDP_CLOSED && cfdp_stored(&entity, 1, 1, 1, true, &done) == CFDP_CLOSED);
@@ -194,6 +216,15 @@ static void wrong_handles(void) {
     CHECK(cfdp_image_octets(&entity, 0, 0, octets, 1, &len) == CFDP_CLOSED && cfdp_indication(&entity, 0, &told) == CFDP_CLOSED);
     CHECK(cfdp_octets(&entity, 0, 0, octets, 1, &len) == CFDP_CLOSED && cfdp_users(&entity, &count) == CFDP_CLOSED);
     CHECK(cfdp_put_lanes(&entity, &count) == CFDP_CLOSED && len == 77);
+    CHECK(cfdp_tick(&entity, 1, &done) == CFDP_CLOSED && cfdp_next_deadline(&entity, &number) == CFDP_CLOSED);
+    CHECK(cfdp_next_pump(&entity, &txn) == CFDP_CLOSED && cfdp_pdu_destination(&entity, 0, &number) == CFDP_CLOSED);
+    CHECK(cfdp_user_name(&entity, 0, octets, 64, &len) == CFDP_CLOSED && cfdp_remotes(&entity, &count) == CFDP_CLOSED);
+    CHECK(cfdp_remote(&entity, 0, &remote) == CFDP_CLOSED && cfdp_address(&entity, 1, octets, 64, &len) == CFDP_CLOSED);
+    CHECK(number == 77 && len == 77 && done.refusal == 99);
+    CHECK(cfdp_tick(&entity, 1, NULL) == CFDP_NULL && cfdp_next_deadline(NULL, &number) == CFDP_NULL);
+    CHECK(cfdp_next_pump(&entity, NULL) == CFDP_NULL && cfdp_pdu_destination(&entity, 0, NULL) == CFDP_NULL);
+    CHECK(cfdp_user_name(&entity, 0, NULL, 1, &len) == CFDP_NULL && cfdp_remotes(&entity, NULL) == CFDP_NULL);
+    CHECK(cfdp_remote(&entity, 0, NULL) == CFDP_NULL && cfdp_address(&entity, 1, NULL, 1, &len) == CFDP_NULL);
     CHECK(cfdp_deliver(NULL, OCTETS, 1, &done) == CFDP_NULL && cfdp_deliver(&entity, NULL, 1, &done) == CFDP_NULL);
     CHECK(cfdp_deliver(&entity, OCTETS, 1, NULL) == CFDP_NULL && cfdp_close(NULL) == CFDP_NULL);
     CHECK(cfdp_open(&entity, (const uint8_t *)"id = ", 5, &fault, octets, 64, &len) == CFDP_BAD_CONFIG && fault == 1 && !len);
@@ -203,6 +234,14 @@ static void wrong_handles(void) {
     CHECK(cfdp_open_text(&entity, CONFIGURATION) == CFDP_OK && cfdp_open_text(&entity, CONFIGURATION) == CFDP_OPEN);
     CHECK(cfdp_users(&entity, &count) == CFDP_OK && count == 2);
     CHECK(cfdp_put_lanes(&entity, &count) == CFDP_OK && count == 2);
+    CHECK(cfdp_user_name(&entity, 1, octets, 3, &len) == CFDP_OK && len == 3 && !memcmp(octets, "bob", 3));
+    CHECK(cfdp_user_name(&entity, 1, octets, 2, &len) == CFDP_NO_ROOM && cfdp_user_name(&entity, 2, octets, 64, &len) == CFDP_NOTHING);
+    CHECK(cfdp_remotes(&entity, &count) == CFDP_OK && count == 1 && cfdp_remote(&entity, 1, &remote) == CFDP_NOTHING);
+    CHECK(cfdp_remote(&entity, 0, &remote) == CFDP_OK && remote.id == 1 && remote.user == 0);
+    CHECK(cfdp_address(&entity, 1, octets, 14, &len) == CFDP_OK && len == 14 && !memcmp(octets, "127.0.0.1:7001", 14));
+    CHECK(cfdp_address(&entity, 1, NULL, 0, &len) == CFDP_NO_ROOM && cfdp_address(&entity, 2, octets, 64, &len) == CFDP_NOTHING);
+    CHECK(cfdp_next_pump(&entity, &txn) == CFDP_NOTHING && cfdp_pdu_destination(&entity, 0, &number) == CFDP_NOTHING);
+    CHECK(cfdp_tick(&entity, 1, &done) == CFDP_NOTHING && cfdp_next_deadline(&entity, &number) == CFDP_NOTHING && number == 77);
     CHECK(cfdp_take(&entity, 2, &bundle) == CFDP_UNKNOWN && cfdp_take(&entity, 1, &bundle) == CFDP_NOTHING);
     CHECK(cfdp_request(&entity, 2, CFDP_CANCEL, 2, 4, &done) == CFDP_UNKNOWN);
     CHECK(cfdp_request(&entity, 0, 6, 2, 4, &done) == CFDP_BAD_NUMBER && cfdp_timer(&entity, 2, 4, 0, 1, &done) == CFDP_BAD_NUMBER);

@@ -20,7 +20,7 @@ from support import Skipped, Wrong, case, run_cases, until, want
 TOP = pathlib.Path(__file__).resolve().parent.parent
 sys.path[:0] = [str(TOP / "python"), str(TOP / "examples" / "python")]
 import cfdp  # noqa: E402
-from cfdp import Condition, Deposit, Entity, Error, Kind, Refusal, Request, Timer, TimerKind  # noqa: E402
+from cfdp import Condition, Deposit, Entity, Error, Kind, Refusal, Remote, Request, Timer, TimerKind  # noqa: E402
 
 CONFIGURATION = """
 [entity]
@@ -34,7 +34,7 @@ capacity = 64
 segment = 1400
 [[user]]
 name = "ops"
-[[remote]]
+{users}[[remote]]
 id = {remote}
 address = "127.0.0.1:{port}"
 user = "ops"
@@ -51,8 +51,26 @@ check_limit = 3
 FIRST = 2
 
 
-def entity(number=2, remote=1, octets=1, port=7001):
-    return Entity(CONFIGURATION.format(id=number, remote=remote, octets=octets, port=port))
+def entity(number=2, remote=1, octets=1, port=7001, users=""):
+    return Entity(CONFIGURATION.format(id=number, remote=remote, octets=octets, port=port, users=users))
+
+
+def put(one, lane=0, file=b"abc"):
+    """The transaction of a Put."""
+    return one.put(0, lane, 1, b"a", b"b", file)
+
+
+def pumped(one):
+    """The PDUs of the transactions in turn, until none has anything to send; and whose they were."""
+    pdus, turns = [], []
+    while txn := one.next_pump():
+        try:
+            done = one.pump(*txn)
+        except Refusal:
+            continue
+        turns.append(txn.seq)
+        pdus += done.pdus
+    return pdus, turns
 
 
 def refused(kind, call):
@@ -147,6 +165,156 @@ def memory_for_pdus_runs_out():
 
 
 @case
+def users_remotes_and_where_pdus_go():
+    with entity(users='[[user]]\nname = "night"\n') as one, entity(1, 2) as other:
+        want((one.users, one.user_names), (2, ("ops", "night")))
+        want(one.remotes, (Remote(1, 0, "127.0.0.1:7001"),))
+        done = put(one)
+        pumps = [one.pump(done.source, done.seq) for _ in range(3)]
+        want([pump.destinations for pump in pumps], [(1,)] * 3)
+        answers = [other.deliver(octets) for pump in pumps for octets in pump.pdus]
+        want([answer.destinations for answer in answers], [(), (), (2,)])
+    ids = "".join(f'[[remote]]\nid = {number}\naddress = "10.0.0.{number}:{number}"\nack_ms = 1\nnak_ms = 1\ncheck_ms = 1\n'
+                  "inactivity_ms = 1\nack_limit = 1\nnak_limit = 1\ncheck_limit = 1\n" for number in (9, 7))
+    with Entity(CONFIGURATION.format(id=2, remote=1, octets=1, port=7001, users="") + ids) as one:
+        want(one.remotes[1:], (Remote(9, None, "10.0.0.9:9"), Remote(7, None, "10.0.0.7:7")))
+
+
+@case
+def the_response_to_an_old_transaction_has_a_destination():
+    with entity() as one, entity(1, 2) as other:
+        done = put(one)
+        for _ in range(3):
+            for octets in one.pump(done.source, done.seq).pdus:
+                left = other.deliver(octets)
+        left = other.stored(left.deposit, True) if left.deposit else left
+        finished = [octets for octets in left.pdus if octets[7] == 5]
+        want(len(finished), 1)
+        for octets in left.pdus:
+            ended = one.deliver(octets)
+        want(ended.destinations, (1,))
+        why = refused(Refusal, lambda: one.deliver(finished[0]))
+        want((why.name, len(why.pdus), why.destinations), ("OldTransaction", 1, (1,)))
+
+
+@case
+def faults_of_configurations_in_words():
+    good = CONFIGURATION.format(id=2, remote=1, octets=1, port=7001, users="")
+    lines = good.splitlines()
+    for old, new, fault, place, said in (
+            ("segment = 1400", "segment = 14000", 4, "segment", ("[entity]", "`segment`", "14000", "256 to 1400")),
+            ("nak_limit = 3", "", 2, "nak_limit", ("[[remote]] number 1, of entity 1", "`nak_limit`", "1 to 255")),
+            ("nak_ms = 1000", 'nak_ms = "1"', 3, "nak_ms", ("`nak_ms`", '"1"', "1 to 86400000")),
+            ("first = 1", "frist = 1", 5, "entity", ("[entity]", "`frist`", "misspelled")),
+            ('user = "ops"', 'user = "opa"', 8, "", ("[[remote]]", '"opa"', "[[user]]")),
+            ("[entity]", "[entity", 1, "", ("TOML",))):
+        why = refused(cfdp.ConfigurationFault, lambda old=old, new=new: Entity(good.replace(old, new)))
+        want((why.fault, why.place), (fault, place))
+        want([word for word in said if word not in str(why)], [])
+        if new:
+            want(f"line {lines.index(old) + 1}: " in str(why), True)
+        want(str(why), why.sentence)
+    why = refused(cfdp.ConfigurationFault, lambda: Entity(b"# \xff"))
+    want((why.fault, str(why)), (1, "octet 2 is not UTF-8"))
+
+
+@case
+def lanes_take_turns():
+    with entity() as one:
+        want(one.next_pump(), None)
+        first, second = put(one, 0, bytes(4_000)), put(one, 1, bytes(4_000))
+        want(one.next_pump(), (2, first.seq))
+        want(one.next_pump(), (2, first.seq))
+        pdus, turns = pumped(one)
+        want((len(pdus), turns), (10, [first.seq, second.seq] * 5))
+        want(one.next_pump(), None)
+
+
+@case
+def whose_turn_it_is_after_other_events():
+    with entity() as one:
+        first, second = put(one, 0), put(one, 1)
+        one.request(0, Request.SUSPEND, first.source, first.seq)
+        want(pumped(one)[1], [second.seq] * 3)
+        one.request(0, Request.RESUME, first.source, first.seq)
+        want(pumped(one)[1], [first.seq] * 3)
+        # a refused event of another transaction wakes none, and a NAK wakes the one that it is for
+        refused(Refusal, lambda: one.pump(2, 99))
+        want(one.next_pump(), None)
+        one.deliver(bytes([0x28, 0, 17, 0, 2, first.seq, 1, 8]) + bytes(4) + (3).to_bytes(4, "big") + bytes(4) + (3).to_bytes(4, "big"))
+        want(pumped(one)[1], [first.seq])
+
+
+@case
+def a_full_queue_keeps_its_turn():
+    text = CONFIGURATION.format(id=2, remote=1, octets=1, port=7001, users="").replace("capacity = 64", "capacity = 1")
+    with Entity(text) as one:
+        done = put(one)
+        want([len(one.pump(*one.next_pump()).pdus) for _ in range(2)], [1, 1])
+        want(refused(Refusal, lambda: one.pump(*one.next_pump())).name, "QueueFull")
+        want(one.next_pump(), (2, done.seq))
+        want(len(list(one.bundles(0))), 1)
+        want(pumped(one)[1], [done.seq])
+
+
+@case
+def time_that_nobody_tells():
+    with entity() as one:
+        put(one)
+        pumped(one)
+        want(one.next_deadline(), None)
+        # what was started before the first call isn't kept
+        want((one.tick(10_000), one.next_deadline(), one.tick(99_000)), (None, None, None))
+
+
+@case
+def timers_that_the_library_keeps():
+    with entity() as one:
+        want((one.tick(5_000), one.next_deadline()), (None, None))
+        done = put(one)
+        pdus, _ = pumped(one)
+        # Ack runs from the EOF on, for a second
+        want((one.next_deadline(), one.tick(5_999), one.next_deadline()), (6_000, None, 6_000))
+        again = one.tick(6_001)
+        want((again.seq, again.pdus), (done.seq, (pdus[-1],)))
+        want((one.tick(6_001), one.next_deadline()), (None, 7_001))
+        one.deliver(bytes([0x28, 0, 3, 0, 2, done.seq, 1, 6, 0x40, 0x01]))
+        # Inactivity runs from the time that was told last before the event
+        want((one.next_deadline() <= 15_001, one.tick(7_001), one.next_deadline()), (True, None, 6_001 + 9_000))
+
+
+@case
+def timers_expire_in_the_order_in_which_they_were_started():
+    with entity() as one:
+        one.tick(0)
+        seqs = [put(one, lane).seq for lane in (1, 0)]
+        for seq in seqs:
+            for _ in range(3):
+                one.pump(2, seq)
+        want([one.tick(5_000).seq for _ in range(2)], seqs)
+        want(one.tick(5_000), None)
+
+
+@case
+def a_timer_that_is_refused_for_now_goes_back():
+    text = CONFIGURATION.format(id=2, remote=1, octets=1, port=7001, users="").replace("capacity = 64", "capacity = 1")
+    text = text.replace("ack_limit = 3", "ack_limit = 1") + 'send = { positive_ack_limit = "suspend" }\n'
+    with Entity(text) as one:
+        one.tick(0)
+        done = put(one)
+        list(one.bundles(0))
+        for _ in range(3):
+            one.pump(2, done.seq)
+        for _ in range(2):
+            want(refused(Refusal, lambda: one.tick(1_000)).name, "QueueFull")
+            want(one.next_deadline(), 1_000)
+        list(one.bundles(0))
+        want(one.tick(1_000).seq, done.seq)
+        want([said.kind for bundle in one.bundles(0) for said in bundle.indications], [Kind.SUSPENDED])
+        want((one.tick(2_000), one.next_deadline()), (None, None))
+
+
+@case
 def the_loop_of_the_examples():
     import loop
     with socket.socket(socket.AF_INET, socket.SOCK_DGRAM) as first, socket.socket(socket.AF_INET, socket.SOCK_DGRAM) as second:
@@ -155,9 +323,8 @@ def the_loop_of_the_examples():
         octets = os.urandom(50_000)
         received = {}
         with entity(2, 1, 1, second.getsockname()[1]) as sender, entity(1, 2, 1, first.getsockname()[1]) as receiver:
-            ends = [loop.Loop(sender, first, {1: second.getsockname()}, lambda image: False),
-                    loop.Loop(receiver, second, {2: first.getsockname()},
-                              lambda image: received.update({image.destination_name: image.octets}) or True)]
+            ends = [loop.Loop(sender, first, lambda image: False),
+                    loop.Loop(receiver, second, lambda image: received.update({image.destination_name: image.octets}) or True)]
             ends[0].put(0, 0, 1, b"here", b"there", octets)
             threads = [threading.Thread(target=end.run) for end in ends]
             for thread in threads:

@@ -15,20 +15,11 @@
 #include <time.h>
 #include <unistd.h>
 
-enum { TIMERS = 8, DATAGRAM_OCTETS = 65536, FILE_OCTETS = 16777216, LASTS_MS = 60000, PACE_MS = 1 };
-
-typedef struct {
-    bool runs;
-    uint64_t due;
-    cfdp_timer_op_t op;
-} armed_t;
+enum { DATAGRAM_OCTETS = 65536, FILE_OCTETS = 16777216, LASTS_MS = 60000, PACE_MS = 1 };
 
 static cfdp_t entity = CFDP_INIT;
-static armed_t timers[TIMERS];
 static int line = -1;
 static struct sockaddr_in server;
-static uint64_t source, seq;
-static bool may_send;
 static int ended = -1; /* the delivery code, once the transaction has ended */
 
 static void give_up(const char *why) {
@@ -51,30 +42,15 @@ static size_t read_file(const char *path, uint8_t *to, size_t room) {
     return length;
 }
 
-static void set_timer(const cfdp_timer_op_t *op) {
-    armed_t *free_one = NULL;
-    for (int i = 0; i < TIMERS; i++) {
-        if (timers[i].runs && timers[i].op.kind == op->kind && timers[i].op.seq == op->seq) timers[i].runs = false;
-        if (!timers[i].runs) free_one = &timers[i];
-    }
-    if (!op->arms) return;
-    if (!free_one) give_up("too many timers");
-    *free_one = (armed_t) { .runs = true, .due = now_ms() + op->ms, .op = *op };
-}
-
-/* Sends what the event left, and sets its timers. */
+/* Sends what the event left. */
 static void carry_out(int32_t code, const cfdp_done_t *done) {
     static uint8_t octets[DATAGRAM_OCTETS];
-    cfdp_timer_op_t op;
     size_t length;
     if (code != CFDP_OK && code != CFDP_REFUSED) give_up("an event that can't be passed");
     for (size_t i = 0; i < done->pdus; i++)
         if (cfdp_pdu(&entity, i, octets, sizeof octets, &length) == CFDP_OK)
             /* what the network loses is asked for again */
             (void)!sendto(line, octets, length, 0, (struct sockaddr *)&server, sizeof server);
-    for (size_t i = 0; i < done->timers; i++)
-        if (cfdp_timer_op(&entity, i, &op) == CFDP_OK) set_timer(&op);
-    if (code == CFDP_OK) may_send = true;
 }
 
 /* Reads the user's indications: how the transaction ended. */
@@ -89,20 +65,23 @@ static void listen_to_entity(void) {
             }
 }
 
-/* Tells the entity of timers that are due, and returns how long the next one may wait. */
-static int expire(void) {
-    uint64_t now = now_ms(), next = now + 100;
+/* Tells the entity the time, until no more timer has expired. */
+static void tick(void) {
     cfdp_done_t done;
-    for (int i = 0; i < TIMERS; i++) {
-        armed_t *timer = &timers[i];
-        if (timer->runs && timer->due <= now) {
-            timer->runs = false;
-            carry_out(cfdp_timer(&entity, timer->op.source, timer->op.seq, timer->op.kind, timer->op.stamp, &done), &done);
-        } else if (timer->runs && timer->due < next) {
-            next = timer->due;
-        }
+    int32_t code;
+    while ((code = cfdp_tick(&entity, now_ms(), &done)) != CFDP_NOTHING) {
+        carry_out(code, &done);
+        if (code == CFDP_REFUSED) return;
     }
-    return may_send ? PACE_MS : (int)(next - now);
+}
+
+/* For how many milliseconds there is nothing to do but to receive. */
+static int wait_ms(void) {
+    uint64_t now = now_ms(), deadline;
+    cfdp_txn_t txn;
+    if (cfdp_next_pump(&entity, &txn) == CFDP_OK) return PACE_MS;
+    if (cfdp_next_deadline(&entity, &deadline) != CFDP_OK || deadline > now + 100) return 100;
+    return deadline > now ? (int)(deadline - now) : 0;
 }
 
 static void receive(void) {
@@ -122,42 +101,42 @@ static void open_line(int own_port, int server_port) {
     if (line < 0 || bind(line, (struct sockaddr *)&own, sizeof own)) give_up("no socket");
 }
 
-static void start(const char *configuration, const char *path, const char *name, uint64_t remote) {
+static cfdp_txn_t start(const char *configuration, const char *path, const char *name, uint64_t remote) {
     static uint8_t text[65536];
-    uint8_t *file = malloc(FILE_OCTETS), place[32];
+    uint8_t *file = malloc(FILE_OCTETS), place[32], sentence[1000];
     size_t place_len = 0;
     uint32_t fault = 0;
     cfdp_done_t done;
     if (!file) give_up("no memory");
-    int32_t code = cfdp_open(&entity, text, read_file(configuration, text, sizeof text), &fault, place, sizeof place, &place_len);
-    if (code == CFDP_BAD_CONFIG) fprintf(stderr, "udp_put: fault %u at `%.*s`\n", fault, (int)place_len, (const char *)place);
+    size_t length = read_file(configuration, text, sizeof text), said = 0;
+    int32_t code = cfdp_open(&entity, text, length, &fault, place, sizeof place, &place_len);
+    if (code == CFDP_BAD_CONFIG && cfdp_explain(text, length, sentence, sizeof sentence, &said) == CFDP_OK)
+        fprintf(stderr, "udp_put: %.*s\n", (int)said, (const char *)sentence);
     if (code != CFDP_OK) give_up("the configuration was refused");
+    tick();
     code = cfdp_put(&entity, 0, 0, remote, 2, false, (const uint8_t *)path, strlen(path), (const uint8_t *)name, strlen(name),
                     file, read_file(path, file, FILE_OCTETS), &done);
     free(file);
     if (code != CFDP_OK) give_up("the put was refused");
-    source = done.source;
-    seq = done.seq;
     carry_out(code, &done);
+    return (cfdp_txn_t) { done.source, done.seq };
 }
 
 int main(int count, char **words) {
     if (count != 7) give_up("usage: udp_put CONFIGURATION FILE NAME OWN_PORT SERVER_PORT REMOTE");
     open_line(atoi(words[4]), atoi(words[5]));
-    start(words[1], words[2], words[3], strtoull(words[6], NULL, 10));
+    cfdp_txn_t put = start(words[1], words[2], words[3], strtoull(words[6], NULL, 10)), next;
     uint64_t last = now_ms() + LASTS_MS;
     while (ended < 0 && now_ms() < last) {
         struct pollfd wait = { .fd = line, .events = POLLIN };
         cfdp_done_t done;
-        if (poll(&wait, 1, expire()) > 0) receive();
-        if (may_send) {
-            int32_t code = cfdp_pump(&entity, source, seq, &done);
-            carry_out(code, &done);
-            may_send = code == CFDP_OK && done.pdus;
-        }
+        int ready = poll(&wait, 1, wait_ms());
+        tick();
+        if (ready > 0) receive();
+        if (cfdp_next_pump(&entity, &next) == CFDP_OK) carry_out(cfdp_pump(&entity, next.source, next.seq, &done), &done);
         listen_to_entity();
     }
-    printf("transaction %llu %llu: %s\n", (unsigned long long)source, (unsigned long long)seq,
+    printf("transaction %llu %llu: %s\n", (unsigned long long)put.source, (unsigned long long)put.seq,
            ended == CFDP_COMPLETE ? "the server has the file" : ended < 0 ? "no end in a minute" : "incomplete");
     cfdp_close(&entity);
     close(line);

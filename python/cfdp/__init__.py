@@ -2,10 +2,13 @@
 
     with Entity(configuration) as entity:
         done = entity.deliver(datagram)
-        for octets in done.pdus: ...        # to be sent
-        for timer in done.timers: ...       # to be started or stopped
+        for octets, peer in zip(done.pdus, done.destinations): ...      # to be sent
         if done.deposit: ...                # a received file: entity.image(done.deposit), then entity.stored(..)
+        while done := entity.tick(now): ...                             # the same for each timer that has expired
+        while txn := entity.next_pump(): entity.pump(*txn)              # and for each PDU of files that are sent
         for bundle in entity.bundles(0): ...
+
+A program with timers of its own never calls `tick`: it starts and stops those of `done.timers`, and calls `timer` for each that expires.
 
 The library has no input and output, starts no thread and reads no clock: the program carries datagrams and runs timers.
 Every method may be called from any thread; one call runs at a time. Texts of octets are `bytes`, `bytearray` or
@@ -23,10 +26,12 @@ import pathlib
 import threading
 from collections.abc import Iterator
 from dataclasses import dataclass, replace
+from typing import NamedTuple
 
 __all__ = [
     "PDU_MAX", "Bundle", "Class", "Closed", "Condition", "ConfigurationFault", "Delivery", "Deposit", "Done", "Entity", "Error",
-    "FileStatus", "Image", "Indication", "Kind", "OutOfMemory", "Phase", "Refusal", "Request", "Timer", "TimerKind",
+    "FileStatus", "Image", "Indication", "Kind", "OutOfMemory", "Phase", "Refusal", "Remote", "Request", "Timer", "TimerKind",
+    "Transaction",
 ]
 
 __version__ = "0.1"
@@ -73,6 +78,14 @@ class _Image(ctypes.Structure):
     ]
 
 
+class _Transaction(ctypes.Structure):
+    _fields_ = [("source", ctypes.c_uint64), ("seq", ctypes.c_uint64)]
+
+
+class _Remote(ctypes.Structure):
+    _fields_ = [("id", ctypes.c_uint64), ("user", ctypes.c_size_t)]
+
+
 class _Bundle(ctypes.Structure):
     _fields_ = [
         ("source", ctypes.c_uint64), ("seq", ctypes.c_uint64), ("user", ctypes.c_size_t), ("lane", ctypes.c_size_t),
@@ -92,6 +105,7 @@ _IN, _OUT = [_OCTETS, _SIZE], [_OCTETS, _SIZE, _COUNT]
 _DONE = ctypes.POINTER(_Done)
 _SIGNATURES = {
     "cfdp_open": [_H, *_IN, ctypes.POINTER(ctypes.c_uint32), *_OUT],
+    "cfdp_explain": [*_IN, *_OUT],
     "cfdp_close": [_H],
     "cfdp_deliver": [_H, *_IN, _DONE],
     "cfdp_put": [_H, _SIZE, _SIZE, _N, ctypes.c_uint32, ctypes.c_bool, *_IN, *_IN, *_IN, _DONE],
@@ -109,6 +123,14 @@ _SIGNATURES = {
     "cfdp_take": [_H, _SIZE, ctypes.POINTER(_Bundle)],
     "cfdp_indication": [_H, _SIZE, ctypes.POINTER(_Indication)],
     "cfdp_octets": [_H, _SIZE, _SIZE, *_OUT],
+    "cfdp_tick": [_H, _N, _DONE],
+    "cfdp_next_deadline": [_H, ctypes.POINTER(_N)],
+    "cfdp_next_pump": [_H, ctypes.POINTER(_Transaction)],
+    "cfdp_pdu_destination": [_H, _SIZE, ctypes.POINTER(_N)],
+    "cfdp_user_name": [_H, _SIZE, *_OUT],
+    "cfdp_remotes": [_H, _COUNT],
+    "cfdp_remote": [_H, _SIZE, ctypes.POINTER(_Remote)],
+    "cfdp_address": [_H, _N, *_OUT],
     "cfdp_users": [_H, _COUNT],
     "cfdp_put_lanes": [_H, _COUNT],
     "cfdp_error_name": [ctypes.c_int32, *_OUT],
@@ -141,6 +163,20 @@ def _name(function, number: int) -> str:
     return buffer.raw[: length.value].decode("ascii") if code == OK else str(number)
 
 
+def _explained(text: bytes) -> str:
+    """Why a configuration is refused."""
+    room = 1_000
+    while True:
+        buffer, length = ctypes.create_string_buffer(room), ctypes.c_size_t()
+        code = _library.cfdp_explain(text, len(text), buffer, room, ctypes.byref(length))
+        if code != NO_ROOM:
+            break
+        room = length.value
+    if code == NO_MEMORY:
+        raise MemoryError("no memory for what is wrong with a configuration")
+    return buffer.raw[: length.value].decode("utf-8") if code == OK else ""
+
+
 # ---- errors
 
 
@@ -157,11 +193,12 @@ class Closed(Error):
 
 
 class ConfigurationFault(Error):
-    """The configuration was refused: the fault's number, and the key or the table where it is."""
+    """The configuration was refused: the fault's number, the key or the table where it is, and a sentence that says the line, what
+    is found there and what is allowed."""
 
-    def __init__(self, fault: int, place: str):
-        super().__init__(BAD_CONFIG, f"configuration fault {fault}" + (f" at `{place}`" if place else ""))
-        self.fault, self.place = fault, place
+    def __init__(self, fault: int, place: str, sentence: str):
+        super().__init__(BAD_CONFIG, sentence)
+        self.fault, self.place, self.sentence = fault, place, sentence
 
 
 class OutOfMemory(MemoryError):
@@ -177,11 +214,11 @@ class Refusal(Error):
     """The entity refused an event, which changed nothing.
 
     `number` and `name` say why, `fault` is the decoding fault of a datagram that isn't a PDU, and `pdus` has the PDU that
-    responds to one of an old transaction, if there is one.
+    responds to one of an old transaction, if there is one, which goes to the entity in `destinations`.
     """
 
-    def __init__(self, number: int, fault: int = 0, pdus: tuple[bytes, ...] = ()):
-        self.number, self.fault, self.pdus = number, fault, pdus
+    def __init__(self, number: int, fault: int = 0, pdus: tuple[bytes, ...] = (), destinations: tuple[int, ...] = ()):
+        self.number, self.fault, self.pdus, self.destinations = number, fault, pdus, destinations
         self.name = _name(_library.cfdp_refusal_name, number)
         super().__init__(REFUSED, f"{number} {self.name}" + (f" {fault}" if fault else ""))
 
@@ -319,15 +356,33 @@ class Image:
     octets: bytes
 
 
+class Transaction(NamedTuple):
+    """A transaction: its source entity and its number."""
+
+    source: int
+    seq: int
+
+
+@dataclass(frozen=True)
+class Remote:
+    """A remote entity of the configuration: its ID, the number of the user that gets its files, if one does, and its address."""
+
+    id: int
+    user: int | None
+    address: str
+
+
 @dataclass(frozen=True)
 class Done:
-    """What an event left: the PDUs to send, the timer operations in order, and a file for the file store."""
+    """What an event left: the PDUs to send, the timer operations in order, a file for the file store, and the entity to which
+    each PDU goes."""
 
     source: int
     seq: int
     pdus: tuple[bytes, ...]
     timers: tuple[Timer, ...]
     deposit: Deposit | None
+    destinations: tuple[int, ...] = ()
 
 
 @dataclass(frozen=True)
@@ -411,7 +466,7 @@ class Entity:
         fault, place, length = ctypes.c_uint32(), ctypes.create_string_buffer(32), ctypes.c_size_t()
         code = _library.cfdp_open(self._handle, text, len(text), fault, place, len(place), length)
         if code == BAD_CONFIG:
-            raise ConfigurationFault(fault.value, place.raw[: length.value].decode("ascii"))
+            raise ConfigurationFault(fault.value, place.raw[: length.value].decode("ascii"), _explained(text))
         self._check(code)
 
     def __enter__(self) -> Entity:
@@ -452,18 +507,22 @@ class Entity:
             self._room = ctypes.create_string_buffer(length.value)
         return None if self._check(code) == NOTHING else self._room.raw[: length.value]
 
-    def _pdus(self, count: int) -> tuple[bytes, ...]:
-        return tuple(self._copied(_library.cfdp_pdu, index) or b"" for index in range(count))
+    def _pdu(self, index: int) -> tuple[bytes, int]:
+        """A PDU, and the entity to which it goes."""
+        destination = ctypes.c_uint64()
+        octets = self._copied(_library.cfdp_pdu, index) or b""
+        self._check(_library.cfdp_pdu_destination(self._handle, index, ctypes.byref(destination)))
+        return octets, destination.value
 
-    def _pdus_that_fit(self, count: int) -> tuple[bytes, ...]:
+    def _pdus_that_fit(self, count: int) -> list[tuple[bytes, int]]:
         """The PDUs for which Python has memory."""
         found = []
         for index in range(count):
             try:
-                found.append(self._copied(_library.cfdp_pdu, index) or b"")
+                found.append(self._pdu(index))
             except MemoryError:
                 pass
-        return tuple(found)
+        return found
 
     def _timers(self, count: int) -> Iterator[Timer]:
         op = _Timer()
@@ -472,23 +531,26 @@ class Entity:
             yield Timer(op.source, op.seq, TimerKind(op.kind), op.stamp, op.ms, bool(op.arms))
 
     def _told(self, function, *arguments: object) -> Done:
-        """Passes an event, and collects what it left: first what is small, so that it isn't lost if there is no memory for the
-        PDUs."""
-        done, deposit = _Done(), _Deposit()
+        """Passes an event, and collects what it left."""
+        done = _Done()
         with self._lock:
-            code = self._check(function(self._handle, *arguments, done))
-            if code == REFUSED:
-                raise Refusal(done.refusal, done.fault, self._pdus(done.pdus))
-            found = None
-            if done.deposit:
-                self._check(_library.cfdp_deposit(self._handle, deposit))
-                found = Deposit(deposit.source, deposit.seq, deposit.stamp)
-            left = Done(done.source, done.seq, (), tuple(self._timers(done.timers)), found)
-            pdus = self._pdus_that_fit(done.pdus)
-            left = replace(left, pdus=pdus)
-            if len(pdus) < done.pdus:
-                raise OutOfMemory(left, done.pdus - len(pdus))
-            return left
+            return self._left(self._check(function(self._handle, *arguments, done)), done)
+
+    def _left(self, code: int, done: _Done) -> Done:
+        """What an event left: first what is small, so that it isn't lost if there is no memory for the PDUs."""
+        if code == REFUSED:
+            pdus = [self._pdu(index) for index in range(done.pdus)]
+            raise Refusal(done.refusal, done.fault, tuple(octets for octets, _ in pdus), tuple(to for _, to in pdus))
+        deposit, found = _Deposit(), None
+        if done.deposit:
+            self._check(_library.cfdp_deposit(self._handle, deposit))
+            found = Deposit(deposit.source, deposit.seq, deposit.stamp)
+        left = Done(done.source, done.seq, (), tuple(self._timers(done.timers)), found)
+        pdus = self._pdus_that_fit(done.pdus)
+        left = replace(left, pdus=tuple(octets for octets, _ in pdus), destinations=tuple(to for _, to in pdus))
+        if len(pdus) < done.pdus:
+            raise OutOfMemory(left, done.pdus - len(pdus))
+        return left
 
     def deliver(self, datagram: bytes) -> Done:
         """A datagram was received."""
@@ -526,6 +588,28 @@ class Entity:
         """A timer expired that this operation started."""
         stamp = _number(timer.stamp, 32, "stamp")
         return self._told(_library.cfdp_timer, *self._key(timer.source, timer.seq), int(TimerKind(timer.kind)), stamp)
+
+    def tick(self, now: int) -> Done | None:
+        """It is `now`, in milliseconds on a clock that never goes back. Passes the first timer that has expired to the entity; None
+        if none has. From the first call on, the library keeps the timers of all later events."""
+        done, moment = _Done(), _number(now, 64, "now")
+        with self._lock:
+            code = self._check(_library.cfdp_tick(self._handle, moment, done))
+            return None if code == NOTHING else self._left(code, done)
+
+    def next_deadline(self) -> int | None:
+        """A time before which no timer expires, of those that the library keeps; None if none runs."""
+        moment = ctypes.c_uint64()
+        with self._lock:
+            code = self._check(_library.cfdp_next_deadline(self._handle, ctypes.byref(moment)))
+            return None if code == NOTHING else moment.value
+
+    def next_pump(self) -> Transaction | None:
+        """The transaction whose next PDU is to be sent, lane by lane in turn; None if none may have something to send."""
+        txn = _Transaction()
+        with self._lock:
+            code = self._check(_library.cfdp_next_pump(self._handle, txn))
+            return None if code == NOTHING else Transaction(txn.source, txn.seq)
 
     def stored(self, deposit: Deposit, kept: bool) -> Done:
         """The file store reports on a deposit: whether it keeps the file."""
@@ -587,3 +671,21 @@ class Entity:
     def put_lanes(self) -> int:
         """The number of sending lanes of each user."""
         return self._count(_library.cfdp_put_lanes)
+
+    @property
+    def user_names(self) -> tuple[str, ...]:
+        """The names of the users, in the order of their numbers."""
+        with self._lock:
+            return tuple((self._copied(_library.cfdp_user_name, user) or b"").decode("ascii") for user in range(self.users))
+
+    @property
+    def remotes(self) -> tuple[Remote, ...]:
+        """The remote entities of the configuration, in its order."""
+        with self._lock:
+            return tuple(self._remote(place) for place in range(self._count(_library.cfdp_remotes)))
+
+    def _remote(self, place: int) -> Remote:
+        remote = _Remote()
+        self._check(_library.cfdp_remote(self._handle, place, remote))
+        address = (self._copied(_library.cfdp_address, remote.id) or b"").decode("ascii")
+        return Remote(remote.id, None if remote.user == ctypes.c_size_t(-1).value else remote.user, address)

@@ -1,5 +1,5 @@
 -- Meaning. What calls of C do to the session behind a handle, by the code that they answer with.
-use Rattle.std.specs.Prelude.{◌≡◌, ◌<◌, ◌≤◌, ◌⊎◌, ◌+◌, ◌-◌, ℕ, ℤ, min, List, [], ◌∷◌, ◌++◌, length, slice_range, take as first, Option, Some, None, option_map, Result, Err}
+use Rattle.std.specs.Prelude.{◌≡◌, ◌<◌, ◌≤◌, ◌⊎◌, ◌+◌, ◌-◌, ℕ, ℤ, min, List, [], ◌∷◌, ◌++◌, length, slice_range, take as first, Option, Some, None, option_map, Result, Err, IsTrue}
 use Rattle.cfdp_types.specs.declared.key.TxnKey.{TxnKey}
 use Rattle.config_reading.specs.Faults.{fault_number}
 use Rattle.config_reading.specs.Walk.{config_of}
@@ -18,7 +18,9 @@ use Rattle.cfdp_session.specs.declared.flat.FlatBundle.{FlatBundle}
 use Rattle.cfdp_session.specs.declared.flat.FlatDone.{FlatDone}
 use Rattle.cfdp_session.specs.declared.flat.FlatImage.{FlatImage}
 use Rattle.cfdp_session.specs.Flat.{flat_bundle, flat_done}
-use Rattle.cfdp_session.specs.Steps.{IsLoaded, IsMissing, IsOpened, IsTaken, IsTold}
+use Rattle.cfdp_session.specs.Steps.{IsLoaded, IsMissing, IsOpened, IsQuiet, IsTaken, IsTicked, IsTold, IsUnsettled, running_in}
+use Rattle.cfdp_session.specs.Kept.{timers_of}
+use Rattle.kept_timers.specs.Running.{is_before, settled}
 use Rattle.cfdp_c.specs.declared.codes.TheConstants.{OK, REFUSED, NOTHING, CLOSED, OPEN, NO_MEMORY, BAD_CONFIG, NO_ROOM, UNKNOWN, MESSAGE_TOO_LONG, TOO_MANY_MESSAGES}
 use Rattle.cfdp_types.specs.declared.limits.TheConstants.{MESSAGES, MESSAGE_OCTETS}
 use Rattle.cfdp_c.specs.Codes.{place_text, put_code}
@@ -29,16 +31,23 @@ use Rattle.cfdp_c.specs.Codes.{place_text, put_code}
 pub record IsHandled (old : Session) (after : Option Session) (event : WorldEvent) (done : FlatDone) : Type 0 where
   pub new : Session
   pub held : after ≡ Some new
-  pub told : IsTold old event new
+  pub told : IsTold old event old.timers.clock (running_in old) new
   pub done_is : done ≡ flat_done new.last
 
+-- the event waits, since there was no memory for a timer of the last one; the session is in the handle again
+pub record IsPutOff (old : Session) (after : Option Session) : Type 0 where
+  pub new : Session
+  pub held : after ≡ Some new
+  pub same : IsUnsettled old new
+
 -- OK where the entity accepted the event, REFUSED where it refused it, and UNKNOWN, with nothing changed, where it has
--- no such user or lane
+-- no such user or lane; NO_MEMORY where it has not got the event
 abbrev pub IsAnswered : ℤ → Session → Option Session → WorldEvent → FlatDone → Type 0
 IsAnswered code old after event done =
     ((code ≡ OK) × IsHandled old after event done × (done.refusal ≡ 0))
     ⊎ ((code ≡ REFUSED) × IsHandled old after event done × (done.refusal ≡ 0 → ⊥))
     ⊎ ((code ≡ UNKNOWN) × (MayCome old.world.config event → ⊥) × (after ≡ Some old))
+    ⊎ ((code ≡ NO_MEMORY) × IsPutOff old after)
 
 -- an event for a handle; for a closed one the call returns CLOSED, and the handle stays closed
 abbrev pub Answers : ℤ → Option Session → Option Session → WorldEvent → FlatDone → Type 0
@@ -86,6 +95,36 @@ IsMessage code (Some old) after octets = Adds code old after octets
 abbrev pub Clears : ℤ → Option Session → Option Session → Type 0
 Clears code None after = (code ≡ CLOSED) × (after ≡ None)
 Clears code (Some old) after = (code ≡ OK) × (after ≡ Some (emptied old))
+
+-- ---- time
+
+-- the session passed on a timer that had expired, and is in the handle again; the result is in `done`
+pub record IsExpired (old : Session) (after : Option Session) (now : ℕ) (done : FlatDone) : Type 0 where
+  pub new : Session
+  pub held : after ≡ Some new
+  pub ticked : IsTicked old now new
+  pub done_is : done ≡ flat_done new.last
+
+-- the time for a handle: a timer was passed on and was accepted or refused, or none has expired
+abbrev pub Ticks : ℤ → Option Session → Option Session → ℕ → FlatDone → Type 0
+Ticks code None after now done = (code ≡ CLOSED) × (after ≡ None)
+Ticks code (Some old) after now done =
+    ((code ≡ OK) × IsExpired old after now done × (done.refusal ≡ 0))
+    ⊎ ((code ≡ REFUSED) × IsExpired old after now done × (done.refusal ≡ 0 → ⊥))
+    ⊎ ((code ≡ NOTHING) × ((new : Session) × (after ≡ Some new) × IsQuiet old now new))
+    ⊎ ((code ≡ NO_MEMORY) × IsPutOff old after)
+
+-- the session with nothing left to do with timers
+abbrev pub in_time : Session → Session
+in_time session = record session { timers = settled (timers_of session.last) session.timers }
+
+-- a time before which no timer of a handle expires, or NOTHING where none does
+abbrev pub Awaits : ℤ → Option Session → Option Session → ℕ → Type 0
+Awaits code None after deadline = (code ≡ CLOSED) × (after ≡ None)
+Awaits code (Some old) after deadline =
+    ((code ≡ OK) × (after ≡ Some (in_time old)) × IsTrue (is_before (Some deadline) (running_in old)))
+    ⊎ ((code ≡ NOTHING) × (after ≡ Some (in_time old)) × IsTrue (is_before None (running_in old)))
+    ⊎ ((code ≡ NO_MEMORY) × IsPutOff old after)
 
 -- ---- what is asked
 

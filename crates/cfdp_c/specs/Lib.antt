@@ -2,3 +2,4 @@ pub mod Owned
 pub mod Names
 pub mod Codes
 pub mod Calls
+pub mod Explaining

@@ -16,7 +16,7 @@ use cfdp_types::{EntityId, TxnKey};
 use std::alloc::Global;
 
 // Writes a value to its place if there is one; otherwise returns `NOTHING`.
-fn give<T: Copy>(found: Option<T>, place: &mut T) -> i32
+pub(crate) fn give<T: Copy>(found: Option<T>, place: &mut T) -> i32
     ensures { IsGiven result found place.new }
 {
     match found {

@@ -9,7 +9,7 @@ ghost use Rattle.entity_routing.specs.declared.world_event.Request.{Request};
 use crate::codes::{BAD_NUMBER, CLOSED, NO_MEMORY, OK, REFUSED, UNKNOWN, request_of, timer_kind};
 use crate::handle::Handle;
 use crate::hold::{keep, take};
-use cfdp_session::FlatDone;
+use cfdp_session::{FlatDone, Telling};
 use cfdp_types::{EntityId, Octets, TxnKey};
 use std::alloc::Global;
 use world_core::WorldEvent;
@@ -29,11 +29,14 @@ pub(crate) fn tell(
     let told = session.tell(event);
     let answer = session.done();
     *handle = keep(session);
-    if !told {
-        return UNKNOWN;
+    match told {
+        Telling::NoSuch => UNKNOWN,
+        Telling::NoMemory => NO_MEMORY,
+        Telling::Told => {
+            *done = answer;
+            if answer.refusal == 0 { OK } else { REFUSED }
+        }
     }
-    *done = answer;
-    if answer.refusal == 0 { OK } else { REFUSED }
 }
 
 /// A datagram was received.

@@ -5,11 +5,14 @@ mod asking;
 mod codes;
 mod copies;
 mod events;
+mod explaining;
 mod handle;
 mod hold;
 mod names;
 mod opening;
 mod owner;
+mod peers;
 mod putting;
+mod ticking;
 
 pub use handle::Handle;

@@ -3,7 +3,14 @@ use Rattle.std.specs.Prelude.{◌≡◌, ℕ, true, [], ◌∷◌, Some, None, O
 use Rattle.std.proofs.Common.{refl}
 use Rattle.cfdp_types.specs.declared.image.Image.{Image}
 use Rattle.cfdp_types.specs.declared.key.Deposit.{Deposit}
+use Rattle.cfdp_types.specs.declared.key.EntityId.{EntityId}
 use Rattle.cfdp_types.specs.declared.key.TxnKey.{TxnKey}
+use Rattle.pdu_values.specs.declared.pdu.Direction.TheVariants.{TowardReceiver, TowardSender}
+use Rattle.entity_routing.specs.declared.world_event.WorldEvent.TheVariants as events
+use Rattle.timer_list.specs.declared.armed.Armed.{Armed}
+use Rattle.pump_turns.specs.Turns.{TurnsValue}
+use Rattle.cfdp_session.specs.Steps.{expiry, left_after}
+use Rattle.cfdp_session.specs.Turning.{turned}
 use Rattle.cfdp_types.specs.declared.names.Class.TheVariants.{Two}
 use Rattle.cfdp_types.specs.declared.names.Delivery.TheVariants.{Incomplete}
 use Rattle.cfdp_types.specs.declared.names.FileStatus.TheVariants.{Rejected}
@@ -15,12 +22,12 @@ use Rattle.indications.specs.declared.indication.Indication.{Indication}
 use Rattle.indications.specs.declared.indication.Indication.TheVariants as told
 use Rattle.indications.specs.declared.indication.Phase.TheVariants as phase
 use Rattle.lane_table.specs.declared.done.Done.{Done}
-use Rattle.txn_events.specs.declared.refusal.Refusal.TheVariants.{LaneBusy}
+use Rattle.txn_events.specs.declared.refusal.Refusal.TheVariants.{LaneBusy, QueueFull, StaleTimer, WrongState}
 use Rattle.entity_routing.specs.declared.refusal.RouteRefusal.TheVariants.{DecodeFault, NoRoute}
 use Rattle.entity_parts.specs.declared.refusal.EntityRefusal.TheVariants as answer
 use Rattle.lane_table.specs.Steps.{plainly}
-use Rattle.cfdp_session.specs.Flat.{bare, flat_bundle, flat_deposit, flat_done, flat_image, flat_indication, flat_missing, flat_timer}
-use Rattle.cfdp_session.specs.Kept.{deposit_of, image_parts, indications_of, listed, parts_at, pdus_of, timers_of}
+use Rattle.cfdp_session.specs.Flat.{bare, flat_bundle, flat_deposit, flat_done, flat_image, flat_indication, flat_missing, flat_timer, user_number}
+use Rattle.cfdp_session.specs.Kept.{deposit_of, image_parts, indications_of, listed, parts_at, pdus_of, timers_of, toward}
 use Rattle.cfdp_session.specs.Orders.{put_to}
 
 abbrev key : TxnKey
@@ -79,6 +86,59 @@ row-image-content = refl
 
 row-image-name : slice_get (image_parts (Some image)) 1 ≡ Some (98 ∷ 99 ∷ [])
 row-image-name = refl
+
+-- ---- time and turns
+
+abbrev nak : Armed
+nak = record { key = key; kind = timer.Nak; stamp = 3; deadline = 500 }
+
+-- two users with two sending lanes each, of which two may have something to send
+abbrev turns : TurnsValue
+turns = record { ready = Some 8 ∷ None ∷ Some 6 ∷ None ∷ []; turn = 0 }
+
+abbrev local : EntityId
+local = record { 0 = 1 }
+
+row-taken : turned local (events.Deliver []) (Ok step) turns ≡ record { ready = Some 8 ∷ Some 5 ∷ Some 6 ∷ None ∷ []; turn = 0 }
+row-taken = refl
+
+row-of-another : turned (record { 0 = 2 }) (events.Deliver []) (Ok step) turns ≡ turns
+row-of-another = refl
+
+row-pumped : turned local (events.Pump key) (Ok step) turns ≡ record { ready = Some 8 ∷ Some 5 ∷ Some 6 ∷ None ∷ []; turn = 2 }
+row-pumped = refl
+
+row-nothing-left : turned local (events.Pump (record key { seq = 6 })) (Err (answer.Lane (plainly WrongState))) turns
+    ≡ record { ready = Some 8 ∷ None ∷ None ∷ None ∷ []; turn = 3 }
+row-nothing-left = refl
+
+row-queue-full : turned local (events.Pump (record key { seq = 6 })) (Err (answer.Lane (plainly QueueFull))) turns
+    ≡ record { ready = Some 8 ∷ None ∷ Some 6 ∷ None ∷ []; turn = 3 }
+row-queue-full = refl
+
+row-other-refused : turned local (events.Timer (record key { seq = 6 }) timer.Ack 1) (Err answer.WrongLane) turns ≡ turns
+row-other-refused = refl
+
+row-expiry : expiry nak ≡ events.Timer key timer.Nak 3
+row-expiry = refl
+
+row-goes-back : left_after (Some (Err (answer.Lane (plainly QueueFull)))) nak [] ≡ nak ∷ []
+row-goes-back = refl
+
+row-is-gone : left_after (Some (Err (answer.Lane (plainly StaleTimer)))) nak [] ≡ []
+row-is-gone = refl
+
+row-toward-receiver : toward TowardReceiver local (record { 0 = 2 }) ≡ record { 0 = 2 }
+row-toward-receiver = refl
+
+row-toward-sender : toward TowardSender local (record { 0 = 2 }) ≡ local
+row-toward-sender = refl
+
+row-no-user : user_number None ≡ 18446744073709551615
+row-no-user = refl
+
+row-user : user_number (Some 3) ≡ 3
+row-user = refl
 
 -- ---- numbers
 

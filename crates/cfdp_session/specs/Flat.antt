@@ -28,6 +28,10 @@ use Rattle.cfdp_session.specs.declared.flat.FlatDone.{FlatDone}
 use Rattle.cfdp_session.specs.declared.flat.FlatImage.{FlatImage}
 use Rattle.cfdp_session.specs.declared.flat.FlatIndication.{FlatIndication}
 use Rattle.cfdp_session.specs.declared.flat.FlatTimer.{FlatTimer}
+use Rattle.cfdp_session.specs.declared.flat.FlatKey.{FlatKey}
+use Rattle.cfdp_session.specs.declared.flat.FlatRemote.{FlatRemote}
+use Rattle.config_reading.specs.Values.{ConfigValue}
+use Rattle.config_reading.specs.declared.remote.Remote.{Remote}
 use Rattle.cfdp_session.specs.Kept.{Last, pdus_of, parts_of}
 
 -- ---- codes
@@ -84,6 +88,18 @@ flat_done (Some (Err why)) =
 abbrev pub flat_timer : TimerOp → FlatTimer
 flat_timer (Arm key kind stamp ms) = record { source = key.source.0; seq = key.seq; stamp = stamp; ms = ms; kind = kind_code kind; arms = 1 }
 flat_timer (Disarm key kind stamp) = record { source = key.source.0; seq = key.seq; stamp = stamp; ms = 0; kind = kind_code kind; arms = 0 }
+
+-- a transaction of the entity's own, by its number
+abbrev pub flat_own : ConfigValue → ℕ → FlatKey
+flat_own config seq = record { source = config.entity.local.0; seq = seq }
+
+-- the number of a user, or the greatest one
+abbrev pub user_number : Option ℕ → ℕ
+user_number (Some user) = user
+user_number None = 18446744073709551615
+
+abbrev pub flat_remote : Remote → FlatRemote
+flat_remote remote = record { id = remote.id.0; user = user_number remote.user }
 
 abbrev pub flat_deposit : Deposit → FlatDeposit
 flat_deposit deposit = record { source = deposit.key.source.0; seq = deposit.key.seq; stamp = deposit.stamp }

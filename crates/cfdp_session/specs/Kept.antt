@@ -1,9 +1,14 @@
 -- Meaning. What a session keeps for its caller, by place.
-use Rattle.std.specs.Prelude.{ℕ, List, [], ◌∷◌, Option, Some, None, Result, Ok, Err, slice_get}
+use Rattle.std.specs.Prelude.{ℕ, Bool, false, List, [], ◌∷◌, Option, Some, None, Result, Ok, Err, slice_get}
+use Rattle.cfdp_types.specs.declared.key.EntityId.{EntityId}
 use Rattle.cfdp_types.specs.declared.image.Image.{Image}
 use Rattle.cfdp_types.specs.declared.key.Deposit.{Deposit}
 use Rattle.cfdp_types.specs.declared.timer_op.TimerOp.{TimerOp}
 use Rattle.pdu_values.specs.Pdu.{PduValue}
+use Rattle.pdu_values.specs.declared.pdu.Direction.{Direction}
+use Rattle.pdu_values.specs.declared.pdu.Direction.TheVariants.{TowardReceiver, TowardSender}
+use Rattle.pdu_values.specs.declared.pdu.Header.{Header}
+use Rattle.entity_parts.specs.Refusals.{is_passing}
 use Rattle.indications.specs.declared.bundle.Bundle.{Bundle}
 use Rattle.indications.specs.declared.indication.Indication.{Indication}
 use Rattle.indications.specs.declared.indication.Indication.TheVariants as told
@@ -25,6 +30,22 @@ abbrev pub pdus_of : Last → List PduValue
 pdus_of (Some (Ok done)) = done.pdus
 pdus_of (Some (Err (answer.Lane refused))) = listed refused.echo
 pdus_of _ = []
+
+-- the entity to which a PDU goes: the receiver of the file, or its sender
+abbrev pub toward : Direction → EntityId → EntityId → EntityId
+toward TowardReceiver source destination = destination
+toward TowardSender source destination = source
+
+abbrev pub addressed : Header → EntityId
+addressed header = toward header.direction header.source header.destination
+
+abbrev pub addressee : PduValue → EntityId
+addressee pdu = addressed pdu.header
+
+-- whether the event was refused, and may come again
+abbrev pub is_put_off : Last → Bool
+is_put_off (Some (Err why)) = is_passing why
+is_put_off _ = false
 
 -- the timer operations of the step
 abbrev pub timers_of : Last → List TimerOp

@@ -2,3 +2,4 @@ pub mod Flat
 pub mod Kept
 pub mod Orders
 pub mod Steps
+pub mod Turning

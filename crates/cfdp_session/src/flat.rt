@@ -4,6 +4,7 @@ ghost use Rattle.cfdp_session.specs.Kept.{pdus_of};
 ghost use Rattle.cfdp_session.specs.Flat.{delivery_code, deposit_flag, fault_in, kind_code, phase_code, status_code};
 
 use cfdp_types::{Condition, Delivery, Deposit, FileStatus, Image, TimerKind, TimerOp};
+use entity_config::Remote;
 use entity_parts::EntityRefusal;
 use entity_routing::RouteRefusal;
 use indications::{Bundle, Indication, Phase};
@@ -60,6 +61,23 @@ pub struct FlatImage {
     pub octets: usize,
     /// The refusal's number, 0 where there is a file.
     pub refusal: u32,
+}
+
+/// A transaction.
+#[repr(C)]
+#[derive(Clone, Copy)]
+pub struct FlatKey {
+    pub source: u64,
+    pub seq: u64,
+}
+
+/// A remote entity of the configuration.
+#[repr(C)]
+#[derive(Clone, Copy)]
+pub struct FlatRemote {
+    pub id: u64,
+    /// The number of the user that gets its files; the greatest number if no user does.
+    pub user: usize,
 }
 
 /// A bundle of indications.
@@ -296,6 +314,24 @@ impl FlatTimer {
                 ms: 0,
                 kind: kind_code(*kind),
                 arms: 0,
+            },
+        }
+    }
+}
+
+impl FlatRemote {
+    ghost use Rattle.std.specs.Prelude.{◌≡◌};
+    ghost use Rattle.cfdp_session.specs.Flat.{flat_remote};
+
+    /// The numbers of a remote entity.
+    pub fn of(remote: Remote) -> FlatRemote
+        ensures { result ≡ flat_remote remote }
+    {
+        FlatRemote {
+            id: remote.id.0,
+            user: match remote.user {
+                Some(user) => user,
+                None => usize::MAX,
             },
         }
     }

@@ -4,7 +4,10 @@
 mod flat;
 mod order;
 mod session;
+mod turning;
 
-pub use flat::{FlatBundle, FlatDeposit, FlatDone, FlatImage, FlatIndication, FlatTimer};
+pub use flat::{
+    FlatBundle, FlatDeposit, FlatDone, FlatImage, FlatIndication, FlatKey, FlatRemote, FlatTimer,
+};
 pub use order::Order;
-pub use session::{Session, Taking};
+pub use session::{Session, Taking, Telling, Ticking};

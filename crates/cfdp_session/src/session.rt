@@ -1,17 +1,48 @@
 ghost use Rattle.std.specs.Prelude.{◌≡◌, ◌∷◌, IfOk, slice_get, option_map, option_copied};
 ghost use Rattle.pdu_values.specs.Spelling as spelling;
+ghost use Rattle.cfdp_session.specs.Kept.{addressed, is_put_off, timers_of};
+ghost use Rattle.cfdp_session.specs.Steps.{first_turns};
 
-use crate::flat::{FlatBundle, FlatDeposit, FlatDone, FlatImage, FlatIndication, FlatTimer};
+use crate::flat::{
+    FlatBundle, FlatDeposit, FlatDone, FlatImage, FlatIndication, FlatKey, FlatRemote, FlatTimer,
+};
 use crate::order::Order;
+use crate::turning::note;
 use cfdp_types::limits::{MESSAGE_OCTETS, MESSAGES};
-use cfdp_types::{Image, Messages, Octets, PutFault, PutRequest, TxnKey};
-use entity_config::{ConfigFault, read_config};
+use cfdp_types::{Image, Messages, Octets, PutFault, PutRequest, TimerOp, TxnKey};
+use entity_config::{Config, ConfigFault, read_config};
 use indications::{Bundle, Indication};
+use kept_timers::KeptTimers;
 use lane_table::{Done, Echo};
 use pdu_codec::{Pdu, encode};
+use pdu_values::{Direction, Header};
+use pump_turns::Turns;
 use std::alloc::{AllocError, Global};
 use std::{mem, str};
+use timer_list::Armed;
 use world_core::{EntityRefusal, World, WorldEvent};
+
+/// What became of an event.
+#[derive(Clone, Copy, Debug, PartialEq, Eq)]
+pub enum Telling {
+    /// The entity handled it.
+    Told,
+    /// The entity has no such user, or the user no such sending lane.
+    NoSuch,
+    /// There was no memory for a timer of the event before. This one did not reach the entity.
+    NoMemory,
+}
+
+/// What became of the time that the caller told.
+#[derive(Clone, Copy, Debug, PartialEq, Eq)]
+pub enum Ticking {
+    /// A timer had expired, and the entity handled that.
+    Told,
+    /// No timer has expired.
+    Nothing,
+    /// There was no memory for a timer of the event before. No timer was looked for.
+    NoMemory,
+}
 
 /// The result of taking a bundle from a user's queue.
 #[derive(Clone, Copy, Debug, PartialEq, Eq)]
@@ -37,20 +68,26 @@ pub struct Session {
     pub image: Option<Image>,
     /// The messages for the next Put.
     pub messages: Messages,
+    /// Which transactions may have something to send.
+    pub turns: Turns,
+    /// The timers, if the caller tells the time.
+    pub timers: KeptTimers,
 }
 
 impl Session {
-    ghost use Rattle.std.specs.Prelude.{◌≡◌, ◌≤◌, ◌<◌, ◌⊎◌, List, [], ◌∷◌, ◌++◌, true, false, length, IfOk, IfErr, OnOk, OnErr, slice_get, option_map, option_copied};
+    ghost use Rattle.std.specs.Prelude.{◌≡◌, ◌≤◌, ◌<◌, ◌⊎◌, List, [], ◌∷◌, ◌++◌, None, length, IfOk, IfErr, OnOk, OnErr, IsTrue, slice_get, option_map, option_copied};
     ghost use Rattle.pdu_values.specs.Spelling as spelling;
     ghost use Rattle.cfdp_types.specs.Put.{put_fault};
     ghost use Rattle.config_reading.specs.Walk.{config_of};
     ghost use Rattle.world_table.specs.Histories.{Happening, held_for};
     ghost use Rattle.entity_parts.specs.FirstLanes.{first_lane};
     ghost use Rattle.world_core.specs.Worlds.{StandsAfter, MayCome};
-    ghost use Rattle.cfdp_session.specs.Flat.{flat_bundle, flat_deposit, flat_done, flat_indication, flat_timer};
-    ghost use Rattle.cfdp_session.specs.Kept.{deposit_of, image_parts, indications_of, parts_at, pdus_of, timers_of};
+    ghost use Rattle.cfdp_session.specs.Flat.{flat_bundle, flat_deposit, flat_done, flat_indication, flat_own, flat_remote, flat_timer};
+    ghost use Rattle.cfdp_session.specs.Kept.{addressee, deposit_of, image_parts, indications_of, parts_at, pdus_of, timers_of};
     ghost use Rattle.cfdp_session.specs.Orders.{put_of};
-    ghost use Rattle.cfdp_session.specs.Steps.{IsLoaded, IsMissing, IsOpened, IsTaken, IsTold};
+    ghost use Rattle.cfdp_session.specs.Steps.{IsLoaded, IsMissing, IsOpened, IsQuiet, IsTaken, IsTicked, IsTold, IsUnsettled, expiry, left_after, running_in};
+    ghost use Rattle.kept_timers.specs.Running.{is_before, settled, waiting};
+    ghost use Rattle.pump_turns.specs.Turns.{next};
 
     /// Opens a session with a new entity, whose configuration is this TOML text. Octets that are not UTF-8 are
     /// `BadToml`.
@@ -61,29 +98,117 @@ impl Session {
         let Ok(text) = str::from_utf8(text) else {
             return Err(ConfigFault::BadToml);
         };
-        let config = read_config(alloc, text)?;
+        let world = World::open(alloc, read_config(alloc, text)?)?;
+        let turns = turns_of(alloc, world.config())?;
         Ok(Session {
-            world: World::open(alloc, config)?,
+            world,
             last: None,
             front: None,
             image: None,
             messages: Messages::new(alloc),
+            turns,
+            timers: KeptTimers::new(alloc),
         })
     }
 
-    /// Passes an event to the entity and keeps the result. Returns false, and changes nothing, only for a request that
-    /// names a user or a sending lane that the entity does not have.
-    pub fn tell(&mut self, event: &WorldEvent) -> bool
-        ensures told { result ≡ true → IsTold self.old event.now self.new }
-        ensures never { result ≡ false → MayCome self.old.world.config event.now → ⊥ }
-        ensures same { result ≡ false → self.new ≡ self.old }
+    /// Passes an event to the entity and keeps the result. First it does what the event before left to do with timers;
+    /// without memory for that, the event doesn't reach the entity.
+    #[tactic(auto, using(crate::proofs::Told::told_of))]
+    pub fn tell(&mut self, event: &WorldEvent) -> Telling
+        ensures told { result ≡ Telling.Told → IsTold self.old event.now self.old.timers.clock (running_in self.old) self.new }
+        ensures never { result ≡ Telling.NoSuch → MayCome self.old.world.config event.now → ⊥ }
+        ensures same { result ≡ Telling.NoSuch → self.new ≡ self.old }
+        ensures memory { result ≡ Telling.NoMemory → IsUnsettled self.old self.new }
     {
         if !self.world.may_come(event) {
-            return false;
+            return Telling::NoSuch;
         }
+        if self.timers.settle(timers_left(&self.last)).is_err() {
+            return Telling::NoMemory;
+        }
+        self.pass_on(event);
+        Telling::Told
+    }
+
+    // Passes an event to the entity, once nothing is left to do with timers.
+    fn pass_on(&mut self, event: &WorldEvent)
+        requires { MayCome self.old.world.config event.now }
+        ensures told { IsTold self.old event.now self.old.timers.clock (waiting self.old.timers) self.new }
+        ensures held { self.new.timers.held ≡ self.old.timers.held }
+    {
         let answer = self.world.step(event);
+        note(
+            &mut self.turns,
+            self.world.config().entity().local,
+            event,
+            &answer,
+        );
         self.last = Some(answer);
-        true
+        self.timers.carried = 0;
+    }
+
+    /// Notes the time, and passes the first timer that has expired to the entity. If the entity refuses it for want of
+    /// memory or room, it goes back, after all other timers.
+    #[tactic(auto, using(crate::proofs::Told::told_of, crate::proofs::Quiet::quiet))]
+    pub fn tick(&mut self, now: u64) -> Ticking
+        ensures told { result ≡ Ticking.Told → IsTicked self.old now self.new }
+        ensures nothing { result ≡ Ticking.Nothing → IsQuiet self.old now self.new }
+        ensures memory { result ≡ Ticking.NoMemory → IsUnsettled self.old self.new }
+    {
+        match self.timers.due(timers_left(&self.last), now) {
+            Err(_) => Ticking::NoMemory,
+            Ok(None) => Ticking::Nothing,
+            Ok(Some(timer)) => {
+                self.expire(timer);
+                Ticking::Told
+            }
+        }
+    }
+
+    // Passes a timer that has expired to the entity.
+    #[tactic(auto, using(crate::proofs::Told::told_with))]
+    fn expire(&mut self, timer: Armed)
+        requires { self.old.timers.held ≡ None }
+        ensures { IsTold self.old (expiry timer) self.old.timers.clock (left_after self.new.last timer self.old.timers.list) self.new }
+    {
+        let event = WorldEvent::Timer(timer.key, timer.kind, timer.stamp);
+        self.pass_on(&event);
+        if is_put_off(&self.last) {
+            self.timers.hold(timer);
+        }
+    }
+
+    /// A time before which no timer expires, for a caller that tells the time; none if none runs. An error means that
+    /// memory ran out.
+    pub fn deadline(&mut self) -> Result<Option<u64>, AllocError>
+        ensures found { IfOk result (λ moment. IsTrue (is_before moment (running_in self.old))) }
+        ensures settled { OnOk result (self.new ≡ record self.old { timers = settled (timers_of self.old.last) self.old.timers }) }
+        ensures memory { OnErr result (IsUnsettled self.old self.new) }
+    {
+        self.timers.soonest(timers_left(&self.last))
+    }
+
+    /// The transaction of the entity's own that is next to be asked for a PDU.
+    pub fn next_pump(&self) -> Option<FlatKey>
+        ensures { result ≡ option_map (flat_own self.now.world.config) (next self.now.turns) }
+    {
+        match self.turns.next() {
+            Some(seq) => Some(FlatKey {
+                source: self.world.config().entity().local.0,
+                seq,
+            }),
+            None => None,
+        }
+    }
+
+    /// A remote entity, by its place in the configuration.
+    pub fn remote(&self, index: usize) -> Option<FlatRemote>
+        ensures { result ≡ option_map (λ peer. flat_remote peer.remote) (slice_get self.now.world.config.peers index) }
+    {
+        match self.world.config().remote_at(index) {
+            Some(remote) => Some(FlatRemote::of(remote)),
+            None => None,
+        }
     }
 
     /// Takes the bundle at the front of a user's queue, and keeps it.
@@ -142,6 +267,23 @@ impl Session {
                 echoed(alloc, &refused.echo)
             }
             _ => Ok(None),
+        }
+    }
+
+    /// The entity to which the PDU at `index` goes.
+    pub fn addressee(&self, index: usize) -> Option<u64>
+        ensures { result ≡ option_map (λ pdu. (addressee pdu).0) (slice_get (pdus_of self.now.last) index) }
+    {
+        match &self.last {
+            Some(Ok(done)) => match done.pdus.as_slice().get(index) {
+                Some(pdu) => Some(addressee(pdu.header())),
+                None => None,
+            },
+            Some(Err(EntityRefusal::Lane(refused))) if index == 0 => match &refused.echo {
+                Some(echo) => Some(addressee(echo.pdu().header())),
+                None => None,
+            },
+            _ => None,
         }
     }
 
@@ -273,6 +415,45 @@ impl Session {
     {
         let messages = mem::replace(&mut self.messages, Messages::new(alloc));
         order.put(alloc, messages.as_slice())
+    }
+}
+
+// Turns for the sending lanes of a configuration.
+#[tactic(auto, using(crate::proofs::LaneCounts::lane_count))]
+fn turns_of(alloc: Global, config: &Config) -> Result<Turns, AllocError>
+    ensures { IfOk result (λ turns. turns ≡ first_turns config.now) }
+{
+    let entity = config.entity();
+    Turns::new(alloc, config.users() * entity.put_lanes)
+}
+
+// What an event left to do with timers.
+fn timers_left(last: &Option<Result<Done, EntityRefusal>>) -> &[TimerOp]
+    ensures { result.now ≡ timers_of last.now }
+{
+    match last {
+        Some(Ok(done)) => done.timers.as_slice(),
+        _ => &[],
+    }
+}
+
+// Whether an event was refused, and may come again.
+fn is_put_off(last: &Option<Result<Done, EntityRefusal>>) -> bool
+    ensures { result ≡ is_put_off last.now }
+{
+    match last {
+        Some(Err(why)) => why.is_passing(),
+        _ => false,
+    }
+}
+
+// The entity to which a PDU goes.
+fn addressee(header: &Header) -> u64
+    ensures { result ≡ (addressed header.now).0 }
+{
+    match header.direction {
+        Direction::TowardReceiver => header.destination.0,
+        Direction::TowardSender => header.source.0,
     }
 }
 
