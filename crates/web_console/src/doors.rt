@@ -1,6 +1,7 @@
 //! Lets visitors in, and waits for their octets.
 use crate::lobby::Lobby;
 use crate::visit::Visit;
+use crate::watch::Watch;
 use libc::net::{POLLIN, POLLOUT, poll};
 use libc::types::pollfd;
 use std::alloc::{AllocError, Global};
@@ -8,6 +9,7 @@ use std::hash::RandomState;
 use std::io::ErrorKind;
 use std::net::{Net, TcpListener, TcpStream};
 use std::os::fd::AsRawFd;
+use std::rt::Files;
 use std::sync::Wait;
 use std::time::{Clock, Duration};
 use std::{io, thread};
@@ -26,28 +28,29 @@ const REST_MILLIS: u64 = 20;
 
 /// Lets visitors in, hands over those whose octets come, and closes the connections of those that take too long. Never
 /// ends.
-pub(crate) fn keep_doors<R: Wait + Clock + Net<Listener = TcpListener, Stream = TcpStream>>(
+pub(crate) fn keep_doors<R: Wait + Clock + Net<Listener = TcpListener, Stream = TcpStream> + Files>(
     rt: &R,
     alloc: Global,
     keys: RandomState,
     listener: &TcpListener,
     lobby: &Lobby,
+    watch: &Watch<'_, R>,
 ) {
     let _waits_for_nothing = listener.set_nonblocking(true);
     let mut visits = Vec::new(alloc);
     for _ in rt.forever() {
-        let _done = look_once(rt, alloc, keys, listener, lobby, &mut visits);
+        let _done = look_once(rt, alloc, keys, listener, (lobby, watch), &mut visits);
     }
 }
 
-// Ends visits whose time is over, waits once, and handles what came. The visits end first, because octets that come are
-// a reason to go on only within the time.
-fn look_once<R: Wait + Clock + Net<Listener = TcpListener, Stream = TcpStream>>(
+// Ends visits whose time is over, waits once, looks at the plan, and handles what came. The visits end first, because
+// octets that come are a reason to go on only within the time.
+fn look_once<R: Wait + Clock + Net<Listener = TcpListener, Stream = TcpStream> + Files>(
     rt: &R,
     alloc: Global,
     keys: RandomState,
     listener: &TcpListener,
-    lobby: &Lobby,
+    (lobby, watch): (&Lobby, &Watch<'_, R>),
     visits: &mut Vec<Visit>,
 ) -> io::Result<()> {
     close_late(rt, visits)?;
@@ -56,6 +59,7 @@ fn look_once<R: Wait + Clock + Net<Listener = TcpListener, Stream = TcpStream>>(
         thread::sleep(rt, Duration::from_millis(REST_MILLIS));
         return Ok(());
     }
+    watch.look_at_plan();
     hand_over(rt, lobby, visits, waiting.as_slice())?;
     for visit in lobby.take_back(rt) {
         add(visits, visit)?;

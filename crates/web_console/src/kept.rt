@@ -80,11 +80,13 @@ impl KeptPlan {
         }
     }
 
-    /// The plan, if its file is as it was.
-    pub(crate) fn json(&self, mark: Option<Mark>) -> Lines {
-        if mark.is_none() || self.mark != mark {
-            return None;
-        }
+    /// Whether the plan was read from its file as it is now.
+    pub(crate) fn is_of(&self, mark: Option<Mark>) -> bool {
+        self.json.is_some() && self.mark == mark
+    }
+
+    /// The plan, if it was read.
+    pub(crate) fn json(&self) -> Lines {
         match &self.json {
             Some(json) => Arc::try_clone(json).ok(),
             None => None,

@@ -7,7 +7,6 @@ use std::io;
 use std::io::ErrorKind;
 use std::net::{Net, TcpStream};
 use std::os::fd::AsRawFd;
-use std::rt::Files;
 use std::sync::Wait;
 use std::time::{Clock, Duration};
 use web_pages::{Console, Settings};
@@ -76,7 +75,7 @@ impl Visit {
     }
 
     /// Goes on as far as there are octets to read and room to write; false once the visit is over.
-    pub(crate) fn go_on<R: Wait + Clock + Net + Files>(
+    pub(crate) fn go_on<R: Wait + Clock + Net>(
         &mut self,
         rt: &R,
         alloc: Global,

@@ -16,7 +16,7 @@ use web_pages::Settings;
 /// octets are awaited.
 pub const VISITORS: usize = 32;
 
-/// Serves visits at the listener, and follows the station's events. Returns only if the thread that follows can't be
+/// Serves visits at the listener, follows the station's events, and reads the plan anew where its file changes. Returns only if the thread that follows can't be
 /// started, or the system has no pair of sockets.
 pub fn run_console<
     'x,
@@ -45,12 +45,12 @@ pub fn run_console<
                 break;
             }
         }
-        keep_doors(rt, alloc, keys, listener, lobby);
+        keep_doors(rt, alloc, keys, listener, lobby, watch);
     });
 }
 
 // Serves one visit after another, as their octets come.
-fn serve_visits<R: Wait + Clock + Net<Listener = TcpListener, Stream = TcpStream> + Files>(
+fn serve_visits<R: Wait + Clock + Net<Listener = TcpListener, Stream = TcpStream>>(
     rt: &R,
     alloc: Global,
     lobby: &Lobby,

@@ -44,7 +44,7 @@ pub struct Watch<'a, R> {
     kept_plan: Mutex<KeptPlan>,
 }
 
-impl<'a, R: Wait + Net + Clock + Files> Watch<'a, R> {
+impl<'a, R: Wait + Net + Clock> Watch<'a, R> {
     /// Nothing is known so far of the station with this control socket, and of the plan at this path.
     pub fn new(rt: &'a R, alloc: Global, path: &'a str, plan: Option<&'a str>) -> Watch<'a, R> {
         Watch {
@@ -148,24 +148,17 @@ impl<'a, R: Wait + Net + Clock + Files> Watch<'a, R> {
         None
     }
 
-    // The plan as JSON; read anew if its file has changed.
+    // The plan as JSON, as it was read last.
     fn plan_json(&self) -> Result<Vec<u8>, AllocError> {
-        let Some(path) = self.plan else {
-            return no_plan(self.alloc);
-        };
-        let mark = mark_at(self.rt, path);
-        if let Some(json) = self.kept_json(mark) {
-            return Vec::from_slice(self.alloc, json.as_slice());
+        match self.kept_json() {
+            Some(json) => Vec::from_slice(self.alloc, json.as_slice()),
+            None => no_plan(self.alloc),
         }
-        let json = plan_json(self.rt, self.alloc, path)?;
-        let copy = Arc::new(self.alloc, Vec::from_slice(self.alloc, json.as_slice())?).ok();
-        self.kept_plan.lock(self.rt).keep(mark, copy);
-        Ok(json)
     }
 
-    // The plan that was read last, if its file is as it was.
-    fn kept_json(&self, mark: Option<Mark>) -> Lines {
-        self.kept_plan.lock(self.rt).json(mark)
+    // The plan that was read last, if there is one.
+    fn kept_json(&self) -> Lines {
+        self.kept_plan.lock(self.rt).json()
     }
 
     // Keeps an answer, and returns it.
@@ -242,7 +235,30 @@ fn away_text(alloc: Global, route: Route) -> Result<(Found, Vec<u8>), AllocError
     }
 }
 
-impl<'a, R: Wait + Net + Clock + Files> Source for Watch<'a, R> {
+impl<'a, R: Wait + Files> Watch<'a, R> {
+    /// Reads the plan anew, if its file has changed. If memory runs out, that is tried again at the next look.
+    pub(crate) fn look_at_plan(&self) {
+        let Some(path) = self.plan else {
+            return;
+        };
+        let mark = mark_at(self.rt, path);
+        if self.has_read(mark) {
+            return;
+        }
+        if let Ok(json) = plan_json(self.rt, self.alloc, path)
+            && let Ok(json) = Arc::new(self.alloc, json)
+        {
+            self.kept_plan.lock(self.rt).keep(mark, Some(json));
+        }
+    }
+
+    // Whether the plan was read from its file as it is now.
+    fn has_read(&self, mark: Option<Mark>) -> bool {
+        self.kept_plan.lock(self.rt).is_of(mark)
+    }
+}
+
+impl<'a, R: Wait + Net + Clock> Source for Watch<'a, R> {
     // What a route may show, whatever the station answered.
     ghost shows = { λ watch route last found text. IsSeen route found text };
 
