@@ -71,6 +71,7 @@ for _ in $(seq 2400); do
     kill -0 "$serving" 2> /dev/null || tells "The server ended."
     sleep 0.1
 done
+[ -S "$work/control" ] || tells "The server doesn't listen after four minutes."
 echo "The server listens."
 wait "$putting" || true
 putting=

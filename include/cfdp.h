@@ -93,14 +93,16 @@ enum {
     CFDP_OPEN = -2,                /* the handle is open already */
     CFDP_NO_MEMORY = -3,           /* memory ran out */
     CFDP_NO_ROOM = -4,             /* the buffer is too small; the length says how large it must be */
-    CFDP_BAD_NUMBER = -5,          /* no class, timer or request has this number */
+    CFDP_BAD_NUMBER = -5,          /* no class, timer, request or setting has this number */
     CFDP_UNKNOWN = -6,             /* the entity has no such user, or the user no such sending lane */
     CFDP_BAD_CONFIG = -7,          /* the configuration was refused */
     CFDP_NO_NAME = -8,             /* a file name is empty */
     CFDP_NAME_TOO_LONG = -9,       /* a file name has more than 255 octets */
     CFDP_MESSAGE_TOO_LONG = -10,   /* a message has more than 255 octets */
     CFDP_TOO_MANY_MESSAGES = -11,  /* a Put has more than 4 messages */
-    CFDP_NULL = -12                /* a pointer is null (returned by this header) */
+    CFDP_NULL = -12,               /* a pointer is null (returned by this header) */
+    CFDP_NOT_ALLOWED = -13,        /* the setting may not have this value */
+    CFDP_TOO_LATE = -14            /* the entity has received an event, and no setting may follow */
 };
 
 /* The timers of a transaction. */
@@ -108,6 +110,19 @@ enum { CFDP_TIMER_ACK = 1, CFDP_TIMER_NAK = 2, CFDP_TIMER_CHECK = 3, CFDP_TIMER_
 
 /* What a user may request of a transaction. */
 enum { CFDP_CANCEL = 1, CFDP_SUSPEND = 2, CFDP_RESUME = 3, CFDP_REPORT = 4, CFDP_ABANDON = 5 };
+
+/* What cfdp_set sets, and what cfdp_set_handler may name. */
+enum {
+    CFDP_SET_CAPACITY = 1,    /* for how many bundles each user's queue has room */
+    CFDP_SET_FIRST = 2,       /* where the numbers of Puts begin */
+    CFDP_SET_ACK_LIMIT = 3,   /* which expiration of a timer is a fault, of every remote entity */
+    CFDP_SET_NAK_LIMIT = 4,
+    CFDP_SET_CHECK_LIMIT = 5,
+    CFDP_SET_CHECKSUM = 6     /* the checksum of sent files: CFDP_CHECKSUM_MODULAR or CFDP_CHECKSUM_NULL */
+};
+enum { CFDP_CHECKSUM_MODULAR = 0, CFDP_CHECKSUM_NULL = 15 };
+enum { CFDP_ROLE_SEND = 1, CFDP_ROLE_RECV_CLASS_1 = 2, CFDP_ROLE_RECV_CLASS_2 = 3 };
+enum { CFDP_HANDLER_CANCEL = 1, CFDP_HANDLER_SUSPEND = 2, CFDP_HANDLER_IGNORE = 3, CFDP_HANDLER_ABANDON = 4 };
 
 /* The kinds of indications, and the fields that each has. */
 enum {
@@ -124,7 +139,7 @@ enum {
     CFDP_IND_ABANDONED = 11         /* condition, progress */
 };
 
-/* Phases of a transaction in a report. */
+/* Phases of a transaction. */
 enum { CFDP_ACTIVE = 1, CFDP_IS_SUSPENDED = 2, CFDP_STORING = 3, CFDP_CLOSING = 4 };
 
 /* Delivery codes and file statuses, as in a Finished PDU. */
@@ -143,6 +158,20 @@ typedef struct cfdp_remote_t {
     uint64_t id;
     size_t user; /* the number of the user that gets its files, or CFDP_NO_USER */
 } cfdp_remote_t;
+
+/* A transaction that has begun and not ended, as the entity knows it. */
+typedef struct cfdp_transaction_t {
+    uint64_t source;
+    uint64_t seq;
+    uint64_t peer;     /* the entity at the other end: the receiver of a file that is sent, the sender of one that is received */
+    uint64_t size;     /* octets in the file; 0 if it isn't known yet */
+    uint32_t sends;    /* 1 if this entity sends the file, 0 if it receives it */
+    uint32_t service;  /* its class, 1 or 2 */
+    uint32_t phase;    /* CFDP_ACTIVE .. */
+    uint32_t progress; /* one more than the greatest offset that was sent or received */
+    uint32_t sized;    /* 1 if the size is known: a receiver knows it once the Metadata has come */
+    uint32_t events;   /* how many events it has accepted */
+} cfdp_transaction_t;
 
 /* What an event left. */
 typedef struct cfdp_done_t {
@@ -221,6 +250,21 @@ int32_t cfdp_explain(const uint8_t *text, size_t text_len, uint8_t *buffer, size
 
 /* Closes a handle and frees the entity, with all files in transit. Also CFDP_CLOSED. */
 int32_t cfdp_close(cfdp_t *handle);
+
+/*
+ * Settings, as the lines `set` of scripts make them (docs/scripts.md). Each makes the entity anew, as if the configuration had
+ * this value, with all settings before it; messages for the next Put stay. With any other code than CFDP_OK nothing has changed:
+ * CFDP_TOO_LATE once the entity has received an event, even one that it refused (a call that returns neither CFDP_OK nor
+ * CFDP_REFUSED passes none, and cfdp_tick only if it returns one of these); CFDP_NOT_ALLOWED for a number out of range, or a
+ * handler that the role doesn't allow for the condition (docs/configuration.md has both); CFDP_BAD_NUMBER for a number that
+ * stands for nothing; CFDP_NO_MEMORY.
+ */
+
+/* Changes a number: CFDP_SET_CAPACITY .. */
+int32_t cfdp_set(cfdp_t *handle, uint32_t setting, uint64_t value);
+
+/* Changes the handler of a condition (0 to 15) at a role, for every remote entity: CFDP_ROLE_SEND .., CFDP_HANDLER_CANCEL .. */
+int32_t cfdp_set_handler(cfdp_t *handle, uint32_t role, uint32_t condition, uint32_t handler);
 
 /*
  * Events. Each returns CFDP_OK or CFDP_REFUSED and fills `done`. Any other code means that there was no event, and
@@ -361,6 +405,19 @@ int32_t cfdp_remote(const cfdp_t *handle, size_t index, cfdp_remote_t *remote);
  */
 int32_t cfdp_address(const cfdp_t *handle, uint64_t id, uint8_t *buffer, size_t room, size_t *len);
 
+/*
+ * What the entity is at, by lane. In each lane at most one transaction runs; a bundle names its lane likewise.
+ */
+
+/* The number of lanes of a user: first those in which it sends, then those in which it receives. CFDP_NOTHING if there is no such user. */
+int32_t cfdp_lanes(const cfdp_t *handle, size_t user, size_t *count);
+
+/*
+ * Returns the transaction that runs in a lane of a user. CFDP_NOTHING if none does, or there is no such lane or user. It is no
+ * event: nothing changes. Also CFDP_NO_MEMORY.
+ */
+int32_t cfdp_transaction(const cfdp_t *handle, size_t user, size_t lane, cfdp_transaction_t *transaction);
+
 /* Copies the name of a code of the library, or of a refusal; CFDP_NOTHING for other numbers. 24 octets are enough. */
 int32_t cfdp_error_name(int32_t code, uint8_t *buffer, size_t room, size_t *len);
 int32_t cfdp_refusal_name(uint32_t refusal, uint8_t *buffer, size_t room, size_t *len);
@@ -381,7 +438,7 @@ static inline const char *cfdp_strerror(int32_t code) {
     case CFDP_OPEN: return "the handle is open already";
     case CFDP_NO_MEMORY: return "memory ran out";
     case CFDP_NO_ROOM: return "the buffer is too small";
-    case CFDP_BAD_NUMBER: return "no class, timer or request has this number";
+    case CFDP_BAD_NUMBER: return "no class, timer, request or setting has this number";
     case CFDP_UNKNOWN: return "the entity has no such user or sending lane";
     case CFDP_BAD_CONFIG: return "the configuration was refused";
     case CFDP_NO_NAME: return "a file name is empty";
@@ -389,6 +446,8 @@ static inline const char *cfdp_strerror(int32_t code) {
     case CFDP_MESSAGE_TOO_LONG: return "a message has more than 255 octets";
     case CFDP_TOO_MANY_MESSAGES: return "a Put has more than 4 messages";
     case CFDP_NULL: return "a pointer is null";
+    case CFDP_NOT_ALLOWED: return "the setting may not have this value";
+    case CFDP_TOO_LATE: return "the entity has received an event, and no setting may follow";
     default: return "unknown code";
     }
 }
@@ -565,6 +624,12 @@ static inline int32_t cfdp_checked_users(const cfdp_t *h, size_t *count) { retur
 static inline int32_t cfdp_checked_put_lanes(const cfdp_t *h, size_t *count) {
     return h && count ? cfdp_put_lanes(h, count) : CFDP_NULL;
 }
+static inline int32_t cfdp_checked_set(cfdp_t *h, uint32_t setting, uint64_t value) {
+    return h ? cfdp_set(h, setting, value) : CFDP_NULL;
+}
+static inline int32_t cfdp_checked_set_handler(cfdp_t *h, uint32_t role, uint32_t condition, uint32_t handler) {
+    return h ? cfdp_set_handler(h, role, condition, handler) : CFDP_NULL;
+}
 static inline int32_t cfdp_checked_tick(cfdp_t *h, uint64_t now, cfdp_done_t *done) {
     return h && done ? cfdp_tick(h, now, done) : CFDP_NULL;
 }
@@ -586,6 +651,12 @@ static inline int32_t cfdp_checked_remotes(const cfdp_t *h, size_t *count) {
 }
 static inline int32_t cfdp_checked_remote(const cfdp_t *h, size_t index, cfdp_remote_t *remote) {
     return h && remote ? cfdp_remote(h, index, remote) : CFDP_NULL;
+}
+static inline int32_t cfdp_checked_lanes(const cfdp_t *h, size_t user, size_t *count) {
+    return h && count ? cfdp_lanes(h, user, count) : CFDP_NULL;
+}
+static inline int32_t cfdp_checked_transaction(const cfdp_t *h, size_t user, size_t lane, cfdp_transaction_t *transaction) {
+    return h && transaction ? cfdp_transaction(h, user, lane, transaction) : CFDP_NULL;
 }
 static inline int32_t cfdp_checked_address(const cfdp_t *h, uint64_t id, uint8_t *buffer, size_t room, size_t *len) {
     uint8_t none[1];
@@ -621,6 +692,8 @@ static inline int32_t cfdp_checked_refusal_name(uint32_t refusal, uint8_t *buffe
 #define cfdp_octets cfdp_checked_octets
 #define cfdp_users cfdp_checked_users
 #define cfdp_put_lanes cfdp_checked_put_lanes
+#define cfdp_set cfdp_checked_set
+#define cfdp_set_handler cfdp_checked_set_handler
 #define cfdp_tick cfdp_checked_tick
 #define cfdp_next_deadline cfdp_checked_next_deadline
 #define cfdp_next_pump cfdp_checked_next_pump
@@ -629,6 +702,8 @@ static inline int32_t cfdp_checked_refusal_name(uint32_t refusal, uint8_t *buffe
 #define cfdp_remotes cfdp_checked_remotes
 #define cfdp_remote cfdp_checked_remote
 #define cfdp_address cfdp_checked_address
+#define cfdp_lanes cfdp_checked_lanes
+#define cfdp_transaction cfdp_checked_transaction
 #define cfdp_error_name cfdp_checked_error_name
 #define cfdp_refusal_name cfdp_checked_refusal_name
 

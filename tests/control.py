@@ -86,7 +86,7 @@ def without_standard_input():
         want(stat.S_IMODE(os.stat("control").st_mode), 0o600)
         want(client.ask("trace 1 9"), ["refused 1 NoTransaction"])
         want(client.ask("take alice"), ["refused TakenByEvents"])
-        want(client.ask("follow x"), ["bad command"])
+        want(client.ask("follow x"), ["bad command", 'follow: "x" is not a number of events, or a level: detail, info or warning'])
         one.quits()
 
 
@@ -282,7 +282,7 @@ def many_clients():
                     if turn % 2:
                         want(client.status()[0]["kind"], "entity")
                     else:
-                        want(client.ask("no command"), ["bad command"])
+                        want(client.ask("no command"), ["bad command", '"no" is not a command'])
             except (Wrong, OSError, TypeError) as why:
                 wrong.append(why)
 
@@ -333,6 +333,22 @@ def a_status_socket():
         want(os.path.exists("watched"), False)
 
 
+def seated(one):
+    """A client with a seat: that of a visit that has just ended may not be free yet."""
+    found = []
+
+    def sits():
+        client = one.client()
+        if client.ask("trace 1 9") == ["refused 1 NoTransaction"]:
+            found.append(client)
+        else:
+            client.close()
+        return found
+
+    until(sits, "a seat")
+    return found[0]
+
+
 @case
 def seats_of_watchers():
     """Four watchers take no seat of the control socket, a fifth one is told so, and clients of the control socket take none of theirs."""
@@ -344,9 +360,7 @@ def seats_of_watchers():
             want(watcher.status()[0]["kind"], "entity")
         fifth = Client("watched")
         want((fifth.line(), fifth.line()), (b"busy", None))
-        clients = [one.client() for _ in range(SEATS)]
-        for client in clients:
-            want(client.ask("trace 1 9"), ["refused 1 NoTransaction"])
+        clients = [seated(one) for _ in range(SEATS)]
         want(clients[0].status()[0]["clients"], SEATS + 4)
         want(Spare(one).ask("trace 1 9"), (None, b"busy"))
         until(lambda: len(Spare(one).ask("status")[0] or []) > 2, "a status at the spare seat")
@@ -363,6 +377,35 @@ def seats_of_watchers():
         one.quits()
 
 
+# Lines that aren't commands, and what is said of them.
+WRONG = (
+    ("", '"" is not a command'), ("Status", '"Status" is not a command'), ("status ", 'status: "" is one word too many'),
+    ("put carol 0 2 2 a b", 'put: "carol" is not a user of the configuration'),
+    ("put alice 9 2 2 a b", "put: \"9\" is not one of the user's sending lanes"),
+    ("put alice 0 3 2 a b", 'put: "3" is not a class, 1 or 2'), ("put alice 0 2 x a b", 'put: "x" is not the number of an entity'),
+    ("put alice 0 2 2 a", "put: a name of 1 to 255 octets is missing"), ("put alice 0 2 2 a b Closure", 'put: "Closure" is not the word closure'),
+    ("put alice 0 2 2 a b closure x", 'put: "x" is one word too many'),
+    ("send alice 2 2 a b urgent closure", 'send: after the names come closure, urgent and as NAME, each or none, in this order'),
+    ("rate 2 8k", 'rate: "8k" is not a number of octets a second, 1 to 1000000000, or off'),
+    ("rate", "rate: a number of octets a second, 1 to 1000000000, or off is missing"),
+    ("hold every", 'hold: "every" is not the number of an entity, or all'),
+    ("release 2 90000", 'release: "90000" is not a number of seconds, 1 to 86400'),
+    ("follow 1 2", 'follow: "2" is not a level: detail, info or warning'), ("drop x", 'drop: "x" is not the number of a file in the outbox'),
+    ("cancel alice 2", "cancel: a transaction's sequence number is missing"), ("trace 2 -1", "trace: \"-1\" is not a transaction's sequence number"),
+    ("x" * 50, '"' + "x" * 40 + '" is not a command'), (r'drop "\x07"', 'drop: "?" is not the number of a file in the outbox'),
+    ('drop "1', "quotes are not closed, or an octet stands where it may not, such as one beyond ASCII outside quotes"),
+)
+
+
+@case
+def lines_that_are_not_commands():
+    """The reply names the word and what has to stand in its place."""
+    with server() as one:
+        client = one.client()
+        for line, why in WRONG:
+            want((line, client.ask(line)), (line, ["bad command", why]))
+
+
 @case
 def many_commands_at_once():
     """Commands that arrive together are answered in order, also after the client has shut down its sending end."""
@@ -371,7 +414,7 @@ def many_commands_at_once():
         client.stream.sendall(b"status\nno command\n" + b"trace 1 9\n" * 100)
         client.stream.shutdown(socket.SHUT_WR)
         want(json.loads(client.answer()[0])["kind"], "entity")
-        want(client.answer(), ["bad command"])
+        want(client.answer(), ["bad command", '"no" is not a command'])
         for _ in range(100):
             want(client.answer(), ["refused 1 NoTransaction"])
         want(client.line(), None)

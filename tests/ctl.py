@@ -247,7 +247,7 @@ def said(status=(), events=()):
 
 def layout():
     entity = {"kind": "entity", "id": 1, "version": "0.1", "started": "2026-11-26T12:00:00.000Z",
-              "now": "2028-03-01T00:00:00.000Z", "counters": {"ended_reads": 2}}
+              "now": "2028-03-01T00:00:00.000Z"}
     under_way = {"kind": "transaction", "source": 1, "seq": 41, "user": "ops", "lane": 3, "role": "receiver", "peer": 7,
                  "state": "active", "to_hex": "625cff", "size": 100, "octets": 45, "last": "2028-02-28T00:00:00.000Z"}
     rows = [(45, 100, "2028-02-28T00:00:00.000Z", "[####......] 45% 45 B - 2 d ? to b\\x5c\\xff"),
@@ -261,10 +261,9 @@ def layout():
         with station(*said([entity, {**under_way, "octets": octets, "size": size, "last": last}])):
             run = ctl("status", "--width", "200")
             check(f"{octets} octets", run, 0)
-            want(f"{octets} octets", " ".join(run.stdout.decode().split("\n")[5].split()).endswith(" active " + wanted), run.stdout)
+            want(f"{octets} octets", " ".join(run.stdout.decode().split("\n")[4].split()).endswith(" active " + wanted), run.stdout)
             want(f"{octets} octets, its heads", run.stdout.startswith(
-                b"Entity 1, cfdp_server 0.1, since 2026-11-26T12:00:00.000Z, now 2028-03-01T00:00:00.000Z\n"
-                b"Workers that stopped reading because their socket failed: 2\n\nActive\n"), run.stdout)
+                b"Entity 1, cfdp_server 0.1, since 2026-11-26T12:00:00.000Z, now 2028-03-01T00:00:00.000Z\n\nActive\n"), run.stdout)
     with station(*said([{**under_way, "state": "ended"}, {**under_way, "seq": 42, "state": "ended", "condition": 8}])):
         run = ctl("status", "--width", "200")
         want("a transaction that is still ending", [line.split()[4:-3] for line in run.stdout.decode().split("\n")[2:4]]
@@ -356,7 +355,8 @@ def words_of_events():
          "refused: DecodeFault 3, times 2, from 192.0.2.1:4556"),
         ({**at, "kind": "start", "id": 2}, "the server starts as entity 2"),
         ({**at, "kind": "stored", "source": 1, "seq": 41, "status": "rejected"}, "1.41 file rejected"),
-        ({**at, "kind": "reads-ended"}, "a worker stopped reading: its socket failed"),
+        ({**at, "kind": "stored", "source": 1, "seq": 41, "status": "rejected", "why": "no space is left"},
+         "1.41 file rejected: no space is left"),
         ({**at, "kind": "journal-full", "user": "ops", "source": 1, "seq": 41}, "ops 1.41 abandoned: its journal is full"),
         ({**at, "kind": "put", "user": "ops", "source": 1, "seq": 41, "peer": 7, "class": 2, "file": "a", "to": "b", "size": 9,
           "queued": 3}, "ops 1.41 put: a to b, 9 B, for entity 7 in class 2, file 3 of the outbox"),

@@ -4,6 +4,9 @@ may leave is made of that. In each of them every file that anybody was told of a
 
 usage: tests/cuts.py SERVER
 
+Of octets that were written behind flushed ones a cut may leave any, with zeros in place of the others. A server starts on what may be
+found of its numbers and its outbox.
+
 A check of this kind must fail where a flush is left out: the script leaves out each one that was recorded, and wants that.
 """
 import itertools
@@ -18,19 +21,34 @@ from support import Wrong, case, end_of_file, file_data, library, metadata, run_
 SERVER = os.path.abspath(sys.argv[1])
 FOLDER = object()
 MOST_STATES = 4_096
+MOST_STARTS = 24
 FINISHED = 5
 
 
+def holed(octets):
+    """What a cut may leave of octets that weren't flushed: those up to some place, with zeros in place of some, and zeros behind them."""
+    third, half, count = len(octets) // 3, len(octets) // 2, len(octets)
+    zeros = bytes(count)
+    return {
+        b"", octets, octets[:half], octets[:-1], zeros, octets + b"\0\0\0", zeros[:half] + octets[half:], octets[:half] + zeros[half:],
+        octets[:third] + zeros[third : 2 * third] + octets[2 * third :], zeros[:1] + octets[1:],
+    }
+
+
 class File:
-    """A file that was made: its octets, and whether they were flushed."""
+    """A file that was made: its octets, and how many of them were flushed."""
 
     def __init__(self):
         self.octets = b""
-        self.is_flushed = True
+        self.flushed = 0
 
     def found(self):
-        """What may be found in it after a cut: anything, where it wasn't flushed behind the last write."""
-        return {self.octets} if self.is_flushed else {self.octets, b"", self.octets[:-1] + b"?"}
+        """What may be found in it after a cut: anything, where nothing was flushed; otherwise what was, and a part of the rest."""
+        if self.flushed == len(self.octets):
+            return {self.octets}
+        if self.flushed <= 0:
+            return {self.octets, b"", self.octets[:-1] + b"?"}
+        return {self.octets[: self.flushed] + rest for rest in holed(self.octets[self.flushed :])}
 
 
 class Disk:
@@ -60,11 +78,11 @@ class Disk:
             file = self.now.get(path)
             if file is not None:
                 file.octets = file.octets + bytes.fromhex(more) if call == "write" else b""
-                file.is_flushed = False
+                file.flushed = file.flushed if call == "write" else -1
         elif call == "flush":
             file = self.now.get(path)
             if isinstance(file, File):
-                file.is_flushed = True
+                file.flushed = len(file.octets)
             else:
                 for entry in self.may:
                     if os.path.dirname(entry) == path:
@@ -307,6 +325,79 @@ def numbers():
         if text and given:
             pathlib.Path("numbers").write_bytes(text)
             want(put_some(1) > given, True)
+
+
+def book_of(text):
+    """The names that the files of an outbox get, by their numbers, in order; None if a line that no cut tore can't be read."""
+    *lines, _ = text.split(b"\n")
+    book = {}
+    for line in lines:
+        words = line.split(b" ")
+        if b"\0" in line:
+            continue
+        if words[0] not in (b"next", b"queued", b"began", b"ended", b"dropped") or not words[1].isdigit():
+            return None
+        if words[0] == b"queued":
+            book[int(words[1])] = words[8].decode()
+        elif words[0] in (b"ended", b"dropped"):
+            book.pop(int(words[1]), None)
+    return book
+
+
+def check_outbox(calls, path):
+    """At each moment the file of the outbox says what was answered, or also what was asked and isn't answered yet; gives each text that may
+    be found, with what it may say. Among the calls are the answers, each with what waits from then on."""
+    disk, texts, now = Disk(), {}, {}
+    for place, (call, at, more) in enumerate(calls):
+        if call == "answer":
+            now = more
+        elif at.startswith(path) or (call == "flush" and at == os.path.dirname(path)):
+            disk.make(call, at, more)
+        allowed = [now] + [waiting for call, _, waiting in calls[place + 1 :] if call == "answer"][:1]
+        for state in disk.states():
+            found = state.get(path, b"")
+            if book_of(found) not in allowed:
+                raise Wrong(f"{found!r} says {book_of(found)} and not one of {allowed}")
+            texts.setdefault(found, []).extend(allowed)
+    return texts
+
+
+def queue_some():
+    """Queues files and drops some; gives the calls to the disk, and among them the answers with what waits from then on."""
+    around = {**os.environ, "LD_PRELOAD": library("disk_calls"), "CALLS": os.path.abspath("calls")}
+    answers, waiting = [], {}
+    with station(SERVER, options=("sending.outbox = 'outbox'", "station.hold = true"), around=around) as (one, _):
+        client = one.client()
+        for number in range(1, 7):
+            want(client.ask(f"send alice 2 2 file name{number}"), [f"queued {number}"])
+            waiting = {**waiting, number: f"name{number}"}
+            answers.append((len(calls_in("calls", os.getcwd())), waiting))
+            if number % 3 == 0:
+                want(client.ask(f"drop {number - 1}"), ["ok"])
+                waiting = {other: name for other, name in waiting.items() if other != number - 1}
+                answers.append((len(calls_in("calls", os.getcwd())), waiting))
+        one.close()
+    calls = calls_in("calls", os.getcwd())
+    for count, waits in reversed(answers):
+        calls.insert(count, ("answer", "", waits))
+    return calls
+
+
+@case
+def an_outbox():
+    """A start on each state of its file that a cut may leave has the files that were answered, and not those that were dropped."""
+    pathlib.Path("file").write_bytes(b"abc")
+    calls = queue_some()
+    path = os.path.abspath("outbox")
+    texts = check_outbox(calls, path)
+    want_all_needed(lambda some: check_outbox(some, path), calls, path, first=1)
+    want(len(texts) > 20, True)
+    chosen = [text for text in sorted(texts) if text]
+    for text in chosen[:: 1 + len(chosen) // MOST_STARTS]:
+        pathlib.Path("outbox").write_bytes(text)
+        with station(SERVER, options=("sending.outbox = 'outbox'", "station.hold = true")) as (one, _):
+            waits = {line["number"]: line["to"] for line in map(json.loads, one.client().ask("outbox"))}
+        want(waits in texts[text], True)
 
 
 run_cases("cuts")

@@ -136,14 +136,31 @@ static int noted(int status, const char *call, const char *path, const char *mor
     return status;
 }
 
+/* Writes down a rename that ended well; a file that is open under the old path has the new one from then on. */
+static int renamed(int status, const char *from, const char *to)
+{
+    if (status == 0) {
+        pthread_mutex_lock(&lock);
+        note("rename", from, to, NULL, 0);
+        for (int file = 0; file < FILES; file++) {
+            if (paths[file] != NULL && strcmp(paths[file], from) == 0) {
+                free(paths[file]);
+                paths[file] = strdup(to);
+            }
+        }
+        pthread_mutex_unlock(&lock);
+    }
+    return status;
+}
+
 int rename(const char *from, const char *to)
 {
-    return noted(NEXT(rename)(from, to), "rename", from, to);
+    return renamed(NEXT(rename)(from, to), from, to);
 }
 
 int renameat(int from_folder, const char *from, int to_folder, const char *to)
 {
-    return noted(NEXT(renameat)(from_folder, from, to_folder, to), "rename", from, to);
+    return renamed(NEXT(renameat)(from_folder, from, to_folder, to), from, to);
 }
 
 int link(const char *from, const char *to)

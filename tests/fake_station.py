@@ -18,7 +18,6 @@ usage: tests/fake_station.py SOCKET [OPTION..]
   --lose NAME        the file that ends incomplete
   --lost N           how often that file ends incomplete before it arrives (always)
   --unreadable NAME  the file that can't be read when its turn comes
-  --ended-reads N    workers that stopped reading (0)
   --reading A,B      files that are being read for Puts (none)
   --storing N        received files that are being stored, of which all but the first couldn't be stored so far (none)
   --recorded A,B,C   how many recordings were written, of how many transactions the journal was gone, and how many failed
@@ -87,7 +86,7 @@ def named(member, octets):
 LEVELS = ["detail", "info", "warning"]
 
 
-WARNINGS = ("unsent", "refused", "unparked", "journal-full", "reads-ended", "Fault", "Abandoned")
+WARNINGS = ("unsent", "refused", "unparked", "journal-full", "Fault", "Abandoned")
 
 
 def level_of(event):
@@ -263,7 +262,7 @@ class Station:
                **({"levels": [client.level for client in list(self.followers)]} if self.options.levels else {}),
                "counters": {"datagrams_in": 12, "octets_in": 9000 + moved[5][0] + moved[7][0], "datagrams_out": 3,
                             "octets_out": 90 + moved[5][1] + moved[7][1], "failed_sends": 0,
-                            "failed_reads": 0, "ended_reads": self.options.ended_reads, "foreign_datagrams": 0,
+                            "failed_reads": 0, "foreign_datagrams": 0,
                             "decode_faults": 1, "refused": 1, "stored": 1, "failed_stores": 0, "dropped_clients": 0}}
         yield {"kind": "log", "failing": False, "written": self.number, "lost": 0}
         for name in self.options.users:
@@ -456,7 +455,6 @@ def main():
     parser.add_argument("--lose")
     parser.add_argument("--lost", type=int)
     parser.add_argument("--unreadable")
-    parser.add_argument("--ended-reads", type=int, default=0)
     parser.add_argument("--reading", type=lambda text: text.split(","), default=[])
     parser.add_argument("--pace", type=int, default=20_000)
     parser.add_argument("--storing", type=int, default=0)

@@ -138,6 +138,8 @@ static void listen_to(cfdp_t *entity) {
 static void run(cfdp_t *entity) {
     static const uint8_t name[] = { 'n' }, file[] = { 1, 2, 3 };
     DO(cfdp_open_text(entity, CONFIGURATION));
+    DO(cfdp_set(entity, CFDP_SET_CAPACITY, 9));
+    DO(cfdp_set_handler(entity, CFDP_ROLE_RECV_CLASS_1, 10, CFDP_HANDLER_IGNORE));
     TELL(cfdp_tick(entity, 1000, &done));
     receive(entity);
     listen_to(entity);
@@ -200,10 +202,11 @@ static void wrong_handles(void) {
     cfdp_timer_op_t op;
     cfdp_txn_t txn;
     cfdp_remote_t remote;
+    cfdp_transaction_t running;
     uint64_t number = 77;
     CHECK(sizeof(cfdp_t) == 16 && sizeof(cfdp_done_t) == 48 && sizeof(cfdp_timer_op_t) == 32);
     CHECK(sizeof(cfdp_txn_t) == 16 && sizeof(cfdp_remote_t) == 16 && sizeof(cfdp_bundle_t) == 40 && sizeof(cfdp_image_t) == 32);
-    CHECK(sizeof(cfdp_indication_t) == 56 && sizeof(cfdp_deposit_t) == 24);
+    CHECK(sizeof(cfdp_indication_t) == 56 && sizeof(cfdp_deposit_t) == 24 && sizeof(cfdp_transaction_t) == 56);
     CHECK(cfdp_close(&entity) == CFDP_CLOSED);
     CHECK(cfdp_deliver(&entity, OCTETS, sizeof OCTETS, &done) == CFDP_CLOSED && done.refusal == 99);
     CHECK(cfdp_pump(&entity, 1, 1, &done) == CFDP_CLOSED && cfdp_stored(&entity, 1, 1, 1, true, &done) == CFDP_CLOSED);
@@ -216,6 +219,10 @@ static void wrong_handles(void) {
     CHECK(cfdp_image_octets(&entity, 0, 0, octets, 1, &len) == CFDP_CLOSED && cfdp_indication(&entity, 0, &told) == CFDP_CLOSED);
     CHECK(cfdp_octets(&entity, 0, 0, octets, 1, &len) == CFDP_CLOSED && cfdp_users(&entity, &count) == CFDP_CLOSED);
     CHECK(cfdp_put_lanes(&entity, &count) == CFDP_CLOSED && len == 77);
+    CHECK(cfdp_lanes(&entity, 0, &count) == CFDP_CLOSED && cfdp_transaction(&entity, 0, 0, &running) == CFDP_CLOSED);
+    CHECK(cfdp_lanes(&entity, 0, NULL) == CFDP_NULL && cfdp_transaction(&entity, 0, 0, NULL) == CFDP_NULL);
+    CHECK(cfdp_set(&entity, CFDP_SET_FIRST, 9) == CFDP_CLOSED && cfdp_set(NULL, CFDP_SET_FIRST, 9) == CFDP_NULL);
+    CHECK(cfdp_set_handler(&entity, 1, 1, 1) == CFDP_CLOSED && cfdp_set_handler(NULL, 1, 1, 1) == CFDP_NULL);
     CHECK(cfdp_tick(&entity, 1, &done) == CFDP_CLOSED && cfdp_next_deadline(&entity, &number) == CFDP_CLOSED);
     CHECK(cfdp_next_pump(&entity, &txn) == CFDP_CLOSED && cfdp_pdu_destination(&entity, 0, &number) == CFDP_CLOSED);
     CHECK(cfdp_user_name(&entity, 0, octets, 64, &len) == CFDP_CLOSED && cfdp_remotes(&entity, &count) == CFDP_CLOSED);
@@ -251,6 +258,8 @@ static void wrong_handles(void) {
     CHECK(!strcmp(cfdp_strerror(CFDP_NO_ROOM), "the buffer is too small") && !strcmp(cfdp_strerror(-99), "unknown code"));
     CHECK(!strcmp(cfdp_condition_text(7), "NAK limit reached") && !strcmp(cfdp_kind_text(CFDP_IND_FINISHED), "Transaction-Finished"));
     CHECK(!strcmp(cfdp_timer_text(CFDP_TIMER_CHECK), "Check") && !strcmp(cfdp_decode_text(1), "too short for a header"));
+    CHECK(!strcmp(cfdp_strerror(CFDP_TOO_LATE), "the entity has received an event, and no setting may follow"));
+    CHECK(cfdp_error_name(CFDP_NOT_ALLOWED, octets, 64, &len) == CFDP_OK && len == 11 && !memcmp(octets, "NOT_ALLOWED", 11));
     CHECK(!strcmp(cfdp_config_text(5), "unknown key") && cfdp_version() == CFDP_VERSION);
     CHECK(cfdp_error_name(-99, octets, 64, &len) == CFDP_NOTHING && cfdp_refusal_name(14, octets, 64, &len) == CFDP_NOTHING);
 }
@@ -300,6 +309,85 @@ static void small_buffers(void) {
     CHECK(cfdp_close(&entity) == CFDP_OK);
 }
 
+/* ---- settings */
+
+/* The number of a Put on the first lane. */
+static uint64_t first_number(cfdp_t *entity) {
+    static const uint8_t name[] = { 'n' };
+    cfdp_done_t done = { 0 };
+    CHECK(cfdp_put(entity, 0, 0, 1, 2, false, name, 1, name, 1, NULL, 0, &done) == CFDP_OK);
+    return done.seq;
+}
+
+static void settings(void) {
+    cfdp_t entity = CFDP_INIT;
+    cfdp_done_t done;
+    cfdp_bundle_t bundle;
+    uint8_t octets[64];
+    size_t len;
+    CHECK(cfdp_open_text(&entity, CONFIGURATION) == CFDP_OK);
+    /* what is refused changes nothing */
+    CHECK(cfdp_set(&entity, 0, 9) == CFDP_BAD_NUMBER && cfdp_set(&entity, 7, 9) == CFDP_BAD_NUMBER);
+    CHECK(cfdp_set(&entity, CFDP_SET_CHECKSUM, 1) == CFDP_BAD_NUMBER && cfdp_set(&entity, CFDP_SET_FIRST, UINT64_MAX) == CFDP_NOT_ALLOWED);
+    CHECK(cfdp_set(&entity, CFDP_SET_CAPACITY, 0) == CFDP_NOT_ALLOWED && cfdp_set(&entity, CFDP_SET_CAPACITY, 1025) == CFDP_NOT_ALLOWED);
+    CHECK(cfdp_set(&entity, CFDP_SET_ACK_LIMIT, 256) == CFDP_NOT_ALLOWED && cfdp_set(&entity, CFDP_SET_NAK_LIMIT, 0) == CFDP_NOT_ALLOWED);
+    CHECK(cfdp_set_handler(&entity, 4, 1, 1) == CFDP_BAD_NUMBER && cfdp_set_handler(&entity, 1, 16, 1) == CFDP_BAD_NUMBER);
+    CHECK(cfdp_set_handler(&entity, 1, 1, 0) == CFDP_BAD_NUMBER);
+    CHECK(cfdp_set_handler(&entity, CFDP_ROLE_RECV_CLASS_1, 8, CFDP_HANDLER_SUSPEND) == CFDP_NOT_ALLOWED);
+    /* what doesn't reach the entity comes in between: a message, a look, a time, a Put of no user */
+    CHECK(cfdp_message(&entity, METADATA, 3) == CFDP_OK && cfdp_take(&entity, 0, &bundle) == CFDP_NOTHING);
+    CHECK(cfdp_tick(&entity, 5, &done) == CFDP_NOTHING);
+    CHECK(cfdp_set(&entity, CFDP_SET_FIRST, 40) == CFDP_OK && cfdp_set(&entity, CFDP_SET_CAPACITY, 1) == CFDP_OK);
+    CHECK(cfdp_set(&entity, CFDP_SET_CHECKSUM, CFDP_CHECKSUM_NULL) == CFDP_OK && cfdp_set(&entity, CFDP_SET_FIRST, 80) == CFDP_OK);
+    CHECK(first_number(&entity) == 80);
+    /* the message was kept for it, and the queue has room for one bundle */
+    CHECK(cfdp_pump(&entity, 2, 80, &done) == CFDP_OK && cfdp_pdu(&entity, 0, octets, sizeof octets, &len) == CFDP_OK);
+    CHECK(len > 3 && !memcmp(octets + len - 3, METADATA, 3));
+    CHECK(cfdp_put(&entity, 0, 1, 1, 2, false, octets, 1, octets, 1, NULL, 0, &done) == CFDP_REFUSED && done.refusal == 13);
+    CHECK(cfdp_set(&entity, CFDP_SET_FIRST, 9) == CFDP_TOO_LATE && cfdp_set_handler(&entity, 1, 1, 1) == CFDP_TOO_LATE);
+    CHECK(cfdp_set(&entity, 9, 9) == CFDP_BAD_NUMBER && cfdp_close(&entity) == CFDP_OK);
+    /* an event that was refused is one, too */
+    CHECK(cfdp_open_text(&entity, CONFIGURATION) == CFDP_OK && cfdp_pump(&entity, 2, 4, &done) == CFDP_REFUSED);
+    CHECK(cfdp_set(&entity, CFDP_SET_FIRST, 9) == CFDP_TOO_LATE && first_number(&entity) == 4 && cfdp_close(&entity) == CFDP_OK);
+}
+
+/* ---- what the entity is at */
+
+/* Whether a lane runs this transaction. */
+static bool runs(const cfdp_t *entity, size_t user, size_t lane, uint64_t source, uint64_t seq, cfdp_transaction_t *it) {
+    return cfdp_transaction(entity, user, lane, it) == CFDP_OK && it->source == source && it->seq == seq;
+}
+
+static void open_transactions(void) {
+    static const uint8_t name[] = { 'n' }, file[] = { 1, 2, 3 };
+    cfdp_t entity = CFDP_INIT;
+    cfdp_done_t done;
+    cfdp_transaction_t it;
+    size_t count;
+    CHECK(cfdp_open_text(&entity, CONFIGURATION) == CFDP_OK);
+    /* alice sends in lanes 0 and 1, and receives from entity 1 in lanes 2 and 3; bob only sends */
+    CHECK(cfdp_lanes(&entity, 0, &count) == CFDP_OK && count == 4 && cfdp_lanes(&entity, 1, &count) == CFDP_OK && count == 2);
+    CHECK(cfdp_lanes(&entity, 2, &count) == CFDP_NOTHING && cfdp_lanes(&entity, SIZE_MAX, &count) == CFDP_NOTHING);
+    for (size_t user = 0; user < 3; user++)
+        for (size_t lane = 0; lane < 5; lane++) CHECK(cfdp_transaction(&entity, user, lane, &it) == CFDP_NOTHING);
+    CHECK(cfdp_transaction(&entity, SIZE_MAX, SIZE_MAX, &it) == CFDP_NOTHING);
+    /* a file that is received: its octets come before its Metadata */
+    CHECK(cfdp_deliver(&entity, OCTETS, sizeof OCTETS, &done) == CFDP_OK && runs(&entity, 0, 3, 1, 5, &it));
+    CHECK(!it.sends && it.peer == 1 && it.service == 2 && it.phase == CFDP_ACTIVE && it.progress == 3 && !it.sized && !it.size);
+    CHECK(cfdp_deliver(&entity, METADATA, sizeof METADATA, &done) == CFDP_OK && runs(&entity, 0, 3, 1, 5, &it));
+    CHECK(it.sized && it.size == 3 && it.events == 2);
+    /* one that is sent */
+    CHECK(cfdp_put(&entity, 1, 1, 1, 1, false, name, 1, name, 1, file, 3, &done) == CFDP_OK && runs(&entity, 1, 1, 2, done.seq, &it));
+    CHECK(it.sends && it.peer == 1 && it.service == 1 && it.phase == CFDP_ACTIVE && !it.progress && it.sized && it.size == 3);
+    CHECK(cfdp_request(&entity, 1, CFDP_SUSPEND, 2, it.seq, &done) == CFDP_OK && runs(&entity, 1, 1, 2, done.seq, &it));
+    CHECK(it.phase == CFDP_IS_SUSPENDED && cfdp_transaction(&entity, 1, 0, &it) == CFDP_NOTHING);
+    /* what has ended is none */
+    CHECK(cfdp_request(&entity, 1, CFDP_ABANDON, 2, done.seq, &done) == CFDP_OK);
+    CHECK(cfdp_transaction(&entity, 1, 1, &it) == CFDP_NOTHING);
+    CHECK(cfdp_deliver(&entity, END, sizeof END, &done) == CFDP_OK && runs(&entity, 0, 3, 1, 5, &it) && it.phase == CFDP_STORING);
+    CHECK(cfdp_close(&entity) == CFDP_OK);
+}
+
 /* ---- threads */
 
 static void *receive_many(void *number) {
@@ -334,6 +422,8 @@ static void threads(void) {
 int main(void) {
     wrong_handles();
     small_buffers();
+    settings();
+    open_transactions();
     refuse_each();
     threads();
     puts("handles, buffers, memory and threads: all fine");

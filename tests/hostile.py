@@ -14,16 +14,14 @@ import sys
 import threading
 import time
 
-from support import case, configuration, end_of_file, file_data, free_port, library, metadata, pdu, run_cases, socket_of_peer, station, until, want
+from support import (
+    ack_of_finished, case, configuration, end_of_file, file_data, free_port, in_class_2, library, metadata, pdu, run_cases, socket_of_peer,
+    station, until, want,
+)
 
 SERVER, PUT = (os.path.abspath(word) for word in sys.argv[1:3])
 # How many events a transaction takes at most.
 MOST_EVENTS = 262_144
-
-
-def in_class_2(datagram):
-    """The same PDU in a transaction of class 2."""
-    return bytes([datagram[0] & ~0x04]) + datagram[1:]
 
 
 def prompt(seq):
@@ -107,8 +105,7 @@ def prompts_without_end():
 def echoes_without_end():
     """An ended transaction of class 2 answers a repeated EOF at most a hundred times a second."""
     ended = [in_class_2(one) for one in (metadata(1, 3, b"a"), file_data(1, 0, b"abc"), end_of_file(1, b"abc"))]
-    finished = in_class_2(pdu("directive", 1, bytes([6, 0x51, 0x00])))
-    heard, left_out = replies_to_a_flood([ended[2]], ended, [finished])
+    heard, left_out = replies_to_a_flood([ended[2]], ended, [ack_of_finished(1)])
     want((50 <= heard <= 520, left_out > 500), (True, True))
 
 

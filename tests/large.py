@@ -123,7 +123,7 @@ def all_lanes_of_a_user_at_once():
         want(client.ask(f"hold {id_of(1)}"), ["ok"])
         for lane, name in enumerate(files):
             want(client.ask(f"put {NAMES[5]} {lane} 2 {id_of(1)} {name} {name}")[0], "ok")
-        want(client.ask(f"put {NAMES[5]} {LANES} 2 {id_of(1)} {name} {name}"), ["bad command"])
+        want(client.ask(f"put {NAMES[5]} {LANES} 2 {id_of(1)} {name} {name}")[0], "bad command")
         states = [line["state"] for line in client.status() if line["kind"] == "transaction"]
         want(states, ["active"] * LANES)
         want(client.ask(f"release {id_of(1)}"), ["ok"])

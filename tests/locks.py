@@ -12,8 +12,10 @@ import sys
 
 ROOT = pathlib.Path(__file__).resolve().parent.parent
 TESTS = ("_tests", "test_", "benches", "hostile_runs")
-# Values by whose calls a lock may be taken: the names under which functions have them.
-OWNERS = ("desk", "lot", "seats", "depot", "book", "ledger", "entity", "watch")
+# Values by whose calls a lock may be taken: the names under which functions have them, and the crates of their types.
+OWNERS = {"desk": "program_desk", "lot": "program_lot", "seats": "program_seats", "depot": "program_storing", "book": "server_recording",
+          "ledger": "program_tallies", "entity": "shared_entity", "watch": "web_console", "log": "event_log", "queue": "event_log",
+          "turns": "program_arrivals"}
 WAITS = re.compile(r"\.(wait|wait_while|join|accept|recv|recv_from)\(")
 # Calls that look like waits and are none: texts are joined, an indication is accepted, a desk's wait has a limit, a socket that
 # has no visitor says so at once.
@@ -55,8 +57,8 @@ def lockers():
 def taking(known, crate):
     """What a call looks like, in a crate, of a function that takes a lock."""
     own = sorted({name for where, name in known if where == crate}) or ["-"]
-    others = sorted({name for _, name in known})
-    return re.compile(r"\.lock\(|\bself\.(?:" + "|".join(own) + r")\(|\b(?:" + "|".join(OWNERS) + r")\.(?:" + "|".join(others) + r")\(")
+    others = [rf"\b{owner}\.{name}\(" for owner, of in OWNERS.items() for where, name in sorted(known) if where == of]
+    return re.compile(r"\.lock\(|\bself\.(?:" + "|".join(own) + r")\(" + "".join(f"|{call}" for call in others))
 
 
 def held_parts(body):

@@ -12,7 +12,7 @@ import random
 import re
 import sys
 
-from support import Relay, Station, case, end_of_file, file_data, linked, metadata, run_cases, station, until, want
+from support import Relay, Station, case, configuration, end_of_file, file_data, linked, metadata, run_cases, station, until, want
 
 SERVER, CTL = (os.path.abspath(path) for path in sys.argv[1:3])
 EXAMPLES = pathlib.Path(__file__).resolve().parent.parent / "examples"
@@ -286,6 +286,49 @@ def datagrams_that_wait():
         until(lambda: content(one.received()) == {"first": b"abc", "second": b"def"}, "both files")
         until(lambda: is_over(client.status()), "both ends")
         want(of_kind(client, "parked"), [])
+
+
+@case
+def room_that_is_shared():
+    """Of five remote entities four take a quarter of the room each, of which each lane could take all. The fifth finds the room full,
+    and those that have most give way to it."""
+    text = configuration("127.0.0.1:9", ("alice",), lanes=4, id=1, remote=2, octets=4, inactivity=300_000)
+    remote = text[text.index("[[remote]]"):]
+    text += "".join(remote.replace("id = 2\n", f"id = {number}\n", 1) for number in range(3, 7))
+    # room for sixteen datagrams of 20,014 octets, each with 64 more
+    with station(SERVER, options=("station.park = 321400",), text=text) as (one, peer):
+        client = one.client()
+        sent = 0
+
+        def send(*datagrams):
+            nonlocal sent
+            for datagram in datagrams:
+                peer.sendto(datagram, ("127.0.0.1", one.port))
+            sent += len(datagrams)
+            until(lambda: client.status()[0]["counters"]["datagrams_in"] == sent, "what was sent")
+
+        def opened(source, *seqs):
+            send(*(metadata(seq, 90_000, b"first", source) for seq in seqs))
+            until(lambda: all((source, seq) in [(line["source"], line["seq"]) for line in of_kind(client, "transaction")] for seq in seqs),
+                  "the beginnings of files")
+
+        def parts(source, seq, count):
+            send(*(file_data(seq, place * 20_000, bytes(20_000), source) for place in range(count)))
+
+        for source in range(2, 6):
+            opened(source, *range(4, 8))
+            for seq in range(8, 12):
+                parts(source, seq, 4)
+        opened(6, 4)
+        parts(6, 8, 2)
+
+        def of_sources(member):
+            """The sum over the four lanes of each source, which come after four sending lanes."""
+            lines = of_kind(client, "parked")
+            return [sum(line[member] for line in lines if line["lane"] // 4 == source - 1) for source in range(2, 7)]
+
+        until(lambda: of_sources("datagrams") == [3, 3, 4, 4, 2], "the shares of the room")
+        want(of_sources("dropped"), [13, 13, 12, 12, 0])
 
 
 @case

@@ -20,7 +20,9 @@ from support import Skipped, Wrong, case, run_cases, until, want
 TOP = pathlib.Path(__file__).resolve().parent.parent
 sys.path[:0] = [str(TOP / "python"), str(TOP / "examples" / "python")]
 import cfdp  # noqa: E402
-from cfdp import Condition, Deposit, Entity, Error, Kind, Refusal, Remote, Request, Timer, TimerKind  # noqa: E402
+from cfdp import (  # noqa: E402
+    Checksum, Class, Condition, Deposit, Entity, Error, Handler, Kind, Phase, Refusal, Remote, Request, Role, Setting, Timer,
+    TimerKind)
 
 CONFIGURATION = """
 [entity]
@@ -46,6 +48,9 @@ ack_limit = 3
 nak_limit = 3
 check_limit = 3
 """
+
+# How many lanes each remote entity has here.
+LANES_IN = 2
 
 # The number of an entity's first transaction: that of its first sending lane, of two.
 FIRST = 2
@@ -178,6 +183,66 @@ def users_remotes_and_where_pdus_go():
                   "inactivity_ms = 1\nack_limit = 1\nnak_limit = 1\ncheck_limit = 1\n" for number in (9, 7))
     with Entity(CONFIGURATION.format(id=2, remote=1, octets=1, port=7001, users="") + ids) as one:
         want(one.remotes[1:], (Remote(9, None, "10.0.0.9:9"), Remote(7, None, "10.0.0.7:7")))
+
+
+@case
+def settings_before_the_first_event():
+    with entity() as one:
+        for call in (lambda: one.set(Setting.CAPACITY, 1_025), lambda: one.set(Setting.CHECK_LIMIT, 0),
+                     lambda: one.set_handler(Role.RECV_CLASS_1, Condition.INACTIVITY_DETECTED, Handler.SUSPEND)):
+            want(str(refused(cfdp.NotAllowed, call)), "NOT_ALLOWED")
+        for call in (lambda: one.set(7, 1), lambda: one.set(Setting.CHECKSUM, 3), lambda: one.set_handler(Role.SEND, 12, Handler.CANCEL),
+                     lambda: one.set_handler(4, 7, Handler.CANCEL), lambda: one.set_handler(Role.SEND, 7, 5)):
+            refused(ValueError, call)
+        refused(OverflowError, lambda: one.set(Setting.FIRST, 2**64))
+        one.set(Setting.FIRST, 40)
+        one.set(Setting.CHECKSUM, Checksum.NULL)
+        one.set(Setting.FIRST, 80)
+        one.set_handler(Role.SEND, Condition.POSITIVE_ACK_LIMIT_REACHED, Handler.SUSPEND)
+        want(put(one).seq, 80)
+        end = pumped(one)[0][2]
+        want((end[7], end[9:13]), (4, bytes(4)))
+        why = refused(cfdp.TooLate, lambda: one.set(Setting.FIRST, 9))
+        want((isinstance(why, Error), why.code), (True, cfdp.TOO_LATE))
+        refused(cfdp.TooLate, lambda: one.set_handler(Role.SEND, 7, Handler.CANCEL))
+
+
+@case
+def the_handler_that_was_set():
+    for handler, kind in ((Handler.CANCEL, Kind.FINISHED), (Handler.SUSPEND, Kind.SUSPENDED), (Handler.ABANDON, Kind.ABANDONED)):
+        with entity() as one:
+            one.set(Setting.ACK_LIMIT, 1)
+            one.set_handler(Role.SEND, Condition.POSITIVE_ACK_LIMIT_REACHED, handler)
+            done = put(one)
+            timers = [timer for _ in range(3) for timer in one.pump(done.source, done.seq).timers]
+            one.timer(next(timer for timer in timers if timer.kind == TimerKind.ACK and timer.arms))
+            told = [said.kind for bundle in one.bundles(0) for said in bundle.indications]
+            want((handler, kind in told), (handler, True))
+
+
+@case
+def transactions_that_run():
+    with entity(users='[[user]]\nname = "night"\n') as one, entity(1, 2) as other:
+        want((one.lanes(0), one.lanes(1), one.lanes(2), one.transactions), (2 + LANES_IN, 2, 0, ()))
+        first, second = put(one), put(one, lane=1, file=b"abcdef")
+        shown = one.transactions
+        want([(it.user, it.lane, it.source, it.seq, it.peer, it.sends, it.size, it.phase) for it in shown],
+             [(0, 0, 2, first.seq, 1, True, 3, Phase.ACTIVE), (0, 1, 2, second.seq, 1, True, 6, Phase.ACTIVE)])
+        want((shown[0].service, shown[0].progress, one.running(1, 0), one.running(7, 7)), (Class.ACKNOWLEDGED, 0, None, None))
+        one.request(0, Request.SUSPEND, second.source, second.seq)
+        want(one.running(0, 1).phase, Phase.SUSPENDED)
+        metadata, octets = [one.pump(first.source, first.seq).pdus[0] for _ in range(2)]
+        want(one.running(0, 0).progress, 3)
+        other.deliver(octets)
+        (got,) = other.transactions
+        want((got.user, got.source, got.seq, got.peer, got.sends, got.size, got.progress), (0, 2, first.seq, 2, False, None, 3))
+        want(got.lane >= other.put_lanes, True)
+        other.deliver(metadata)
+        want(other.transactions[0].size, 3)
+        one.request(0, Request.ABANDON, second.source, second.seq)
+        want([it.seq for it in one.transactions], [first.seq])
+        for call in (lambda: one.lanes(-1), lambda: one.running(0, 2**64)):
+            refused(OverflowError, call)
 
 
 @case

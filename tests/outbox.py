@@ -393,9 +393,9 @@ def a_second_server():
 
 @case
 def half_a_line():
-    """A line that a cut of power tore is passed over, also with zeros behind it."""
+    """A line that a cut of power tore is passed over, also with zeros in it or behind it."""
     whole = "next 5\nqueued 5 17 send alice 1 2 a b\n"
-    for torn in ("", "q", "queued 6 18 send al", "dropped 5", "ended 5\0\0\0"):
+    for torn in ("", "q", "queued 6 18 send al", "dropped 5", "ended 5\0\0\0", "queued 6 18 se\0\0 alice 1 2 a b\n", "drop\0\0d 5\n\0", "\0\0\n"):
         pathlib.Path("outbox").write_text(whole + torn)
         with sender("station.hold = true") as one:
             want(one.numbers(), [5])
@@ -424,6 +424,23 @@ def bad_files():
     want(start_alone("sending.outbox = ''"), (1, "cfdp_server: config fault 4\n"))
     with sender(at="fresh") as one:
         want(one.client.ask("outbox"), [])
+
+
+@case
+def a_bad_line_is_mended():
+    """A start that is told to goes on without the lines that can't be parsed, and keeps a copy of the file."""
+    text = "next 5\nqueued 5 17 send alice 1 2 a b\nqueed 6 18 send alice 1 2 a c\nqueued 7 19 send alice 1 2 a d\n"
+    for copy in ("outbox.bad", "outbox.bad.1"):
+        pathlib.Path("outbox").write_text(text)
+        want(start_alone("sending.outbox = 'outbox'"), FAULT)
+        want(pathlib.Path("outbox").read_text(), text)
+        with sender("station.hold = true", "sending.outbox_repair = true") as one:
+            want(one.numbers(), [5, 7])
+            want((lines(), pathlib.Path(copy).read_text()), (["queued 5 17 send alice 1 2 a b", "queued 7 19 send alice 1 2 a d", "next 8"], text))
+            want(one.client.ask("send alice 1 2 a e"), ["queued 8"])
+            one.restart("station.hold = true", "sending.outbox_repair = true")
+            want(one.numbers(), [5, 7, 8])
+    want(sorted(path.name for path in pathlib.Path().glob("outbox.bad*")), ["outbox.bad", "outbox.bad.1"])
 
 
 @case

@@ -245,17 +245,26 @@ def outboxes():
     is_refused("outbox", "gone: is not there", "sending.outbox = 'gone/o'")
     is_refused("outbox", "folder: is a folder", "sending.outbox = 'folder'")
     other_names("outbox", "next 5\n")
-    pathlib.Path("odd").write_text("nonsense\n", encoding="ascii")
-    first, second = started(written(GOOD, "sending.outbox = 'odd'"))
-    want(first, "cfdp_server: outbox fault")
-    holds(second, "odd: ", "a line that doesn't queue a file of this configuration")
+    for text, reasons in (("nonsense\n", ("odd:1: ", "octet 0")), ("next 5\nbegan x\n", ("odd:2: ", "octet 7", "outbox_repair")),
+                          ("queued 5 17 status\n", ("odd: ", "a line that doesn't queue a file of this configuration"))):
+        pathlib.Path("odd").write_text(text, encoding="ascii")
+        first, second = started(written(GOOD, "sending.outbox = 'odd'"))
+        want(first, "cfdp_server: outbox fault")
+        holds(second, *reasons)
     with listening("o.lock"):
         is_refused("outbox", "o: another program uses it", "sending.outbox = 'o'")
 
 
+def logs():
+    """A log that can't be appended to is a fault at the start."""
+    for path, reason in (("gone/log", "gone: is not there"), ("folder", "folder: is a folder"), ("f/log", "f/log: a part of the path is not a folder"),
+                         ("/dev/zero", "/dev/zero: not a plain file")):
+        want(started(written(GOOD, f"log.file = '{path}'")), ["cfdp_server: write fault", reason])
+
+
 def notes():
-    """Folders that are missing are made; what can't be used ends nothing, and is noted."""
-    words = written(GOOD, "record.folder = 'made/records'", "log.file = 'folder'", folder="f/below", control="noted")
+    """Folders that are missing are made; one that can't be used ends nothing, and is noted."""
+    words = written(GOOD, "record.folder = 'made/records'", "log.file = 'log'", folder="f/below", control="noted")
     with subprocess.Popen([SERVER, *words], stdin=subprocess.DEVNULL, stdout=subprocess.PIPE, stderr=subprocess.PIPE, text=True) as run:
         guard = threading.Timer(60, run.kill)
         guard.start()
@@ -266,7 +275,7 @@ def notes():
             _, told = run.communicate()
         finally:
             guard.cancel()
-    want((run.returncode, told.splitlines()), (0, ["note: f/below: a part of the path is not a folder", "note: folder: is a folder"]))
+    want((run.returncode, told.splitlines()), (0, ["note: f/below: a part of the path is not a folder"]))
     want(os.path.isdir("made/records"), True)
 
 
@@ -293,7 +302,7 @@ def main():
     pathlib.Path("good").write_text(GOOD, encoding="ascii")
     pathlib.Path("f").write_text("abc", encoding="ascii")
     try:
-        for case in (places_in_remotes, two_remotes_with_one_id, places_elsewhere, own_tables, paths, sockets, numbers, outboxes, notes, remarks):
+        for case in (places_in_remotes, two_remotes_with_one_id, places_elsewhere, own_tables, paths, sockets, numbers, outboxes, logs, notes, remarks):
             case()
     finally:
         os.chdir("/")

@@ -304,7 +304,7 @@ def the_command():
         want([line.split(" ")[3] for line in played(other, "script") if line.startswith("alice")][:1], ["Metadata-Recv"])
         want(client.ask("journal 1 77"), client.ask("trace 1 77"))
         want(client.ask("journal 1 77")[0].split()[0], "refused")
-        want(client.ask("journal 1"), ["bad command"])
+        want(client.ask("journal 1"), ["bad command", "journal: a transaction's sequence number is missing"])
         shown = one.ctl(CTL, "journal", f"{source}.{seq}")
         want((shown.returncode, shown.stdout.split("\n")[1]), (0, f"# transaction {source} {seq}: user alice sends to entity 2"))
         want(one.ctl(CTL, "journal", "1.x").returncode, 2)

@@ -17,8 +17,8 @@ import sys
 import time
 
 from support import (
-    Station, Wrong, case, configuration, end_of_file, file_data, free_port, library, metadata, pair, run_cases, socket_of_peer, station, until,
-    want,
+    Station, Wrong, ack_of_finished, case, configuration, end_of_file, file_data, free_port, in_class_2, library, metadata, pair, run_cases,
+    socket_of_peer, station, until, want,
 )
 
 SERVER, CTL = (os.path.abspath(path) for path in sys.argv[1:3])
@@ -197,6 +197,30 @@ def files_that_take_long():
         want([event["why"] for event in other.events if event["kind"] == "unsent"], ["dropped"])
 
 
+def log_of(client):
+    return next(line for line in client.status() if line["kind"] == "log")
+
+
+@case
+def a_log_on_a_disk_that_hangs():
+    """While the log's disk doesn't answer, commands are answered and files arrive; once it does, the log has all events."""
+    around = {**os.environ, "LD_PRELOAD": library("slow_files")}
+    with station(SERVER, options=("log.file = 'log.slow'",), around=around) as (one, peer):
+        client = one.client()
+        until(lambda: log_of(client)["failing"], "a log that takes longer than a second")
+        want(client.ask("reopen"), ["refused LogFault"])
+        for datagram in (metadata(8, 3, b"file"), file_data(8, 0, b"abc"), end_of_file(8, b"abc")):
+            peer.sendto(datagram, ("127.0.0.1", one.port))
+        until(lambda: (one.received() / "file").exists(), "a file meanwhile")
+        want((log_of(client)["failing"], log_of(client)["written"]), (True, 0))
+        write("log.slow.go", b"")
+        until(lambda: client.ask("reopen") == ["ok"], "the log")
+        until(lambda: log_of(client)["written"] == client.status()[0]["events"], "its events")
+        want((log_of(client)["failing"], log_of(client)["lost"]), (False, 0))
+    lines = pathlib.Path("log.slow").read_text().splitlines()
+    want([json.loads(line)["number"] for line in lines], list(range(1, len(lines) + 1)))
+
+
 @case
 def an_end_whose_waking_datagram_is_lost():
     """A server ends within two seconds or so although the datagram that wakes its workers is lost."""
@@ -327,6 +351,31 @@ def any_port_of_a_known_host():
 
 
 @case
+def nothing_overtakes():
+    """Many workers hand in the datagrams of a lane in the order in which these came: no whole file of class 2 draws a NAK."""
+    octets = bytes(range(256)) * 2
+    for workers in (4, 16):
+        with station(SERVER, workers=workers, timer=10_000) as (one, peer):
+            one.client().close()
+            naks = 0
+            for first in range(1, 401, 8):
+                waiting = set(range(first, first + 8))
+                for seq in sorted(waiting):
+                    for datagram in (metadata(seq, 512, b"n%d" % seq), file_data(seq, 0, octets[:256]), file_data(seq, 256, octets[256:]),
+                                     end_of_file(seq, octets)):
+                        peer.sendto(in_class_2(datagram), ("127.0.0.1", one.port))
+                while waiting:
+                    reply = peer.recv(2_048)
+                    seq, directive = int.from_bytes(reply[5:9], "big"), reply[10]
+                    naks += directive == 8
+                    if directive == 5 and seq in waiting:
+                        peer.sendto(ack_of_finished(seq), ("127.0.0.1", one.port))
+                        waiting.discard(seq)
+            want((workers, naks), (workers, 0))
+            want(len(list(one.received().iterdir())), 400)
+
+
+@case
 def reads_that_fail_for_a_while():
     """Workers whose reads fail pause and don't spin; once reads succeed again, files arrive."""
     around = {**os.environ, "LD_PRELOAD": library("failing_reads"), "FAILING": os.path.abspath("failing"),
@@ -420,7 +469,7 @@ def names_in_quotes():
             until(lambda: all(line["state"] == "ended" for line in client.status()
                               if line["kind"] == "transaction" and line["seq"] == put["seq"]), "its end")
         for line in ('send alice 2 2 "a b', 'send alice 2 2 "a"b c', r'put alice 0 2 2 "\x2" c', 'send alice 2 2 "" c'):
-            want(client.ask(line), ["bad command"])
+            want(client.ask(line)[0], "bad command")
 
 
 @case

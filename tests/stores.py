@@ -89,6 +89,30 @@ def names_without_folders():
 
 
 @case
+def why_a_file_is_rejected():
+    """The event and the status say why the store didn't keep a file."""
+    with station(SERVER) as (one, peer):
+        receiver = Receiver(one, peer)
+        (one.received() / "d").mkdir()
+        for name, why in ((b"a/b", "its name can't be that of a file here; a slash needs the layout tree"), (b"d", "a folder is in its place, or a file in that of its folder, or the system refuses it")):
+            seq = receiver.send(name)
+            event = receiver.client.wait_event(lambda event: event["kind"] == "stored" and event["seq"] == seq, f"the store's answer {seq}")
+            want((name, event["status"], event["why"]), (name, "rejected", why))
+            want([line.get("why") for line in receiver.client.status() if line["kind"] == "store"], [why])
+
+
+@case
+def parts_that_an_earlier_run_left():
+    """They are left alone: a file gets a part with the next free name."""
+    with station(SERVER) as (one, peer):
+        for number in range(3):
+            (one.received() / f".part-{number}").write_bytes(b"old")
+        want(Receiver(one, peer).receives(b"a", b"new"), ("retained", None))
+        want((one.received() / "a").read_bytes(), b"new")
+        want([(one.received() / f".part-{number}").read_bytes() for number in range(3)], [b"old"] * 3)
+
+
+@case
 def names_that_are_there():
     """With `keep` an existing file is kept, and the next ones get numbers."""
     with station(SERVER, options=("store.layout = 'tree'", "store.existing = 'keep'")) as (one, peer):
@@ -146,6 +170,33 @@ def a_disk_that_is_full_for_a_while():
             want(receiver.stored(seq), ("retained", None))
             want((folder / "late").read_bytes(), bytes(20_000))
             want(receiver.client.status()[0]["counters"]["failed_stores"], 0)
+
+
+@case
+def files_that_stay_too_large():
+    """With `retry_s` files for which there is never room are tried on, and hold up no other: each is tried again by itself."""
+    text = configuration("127.0.0.1:9", ("alice",), lanes=8, id=1, remote=2, octets=4, inactivity=300_000)
+    remote = text[text.index("[[remote]]"):]
+    text += "".join(remote.replace("id = 2\n", f"id = {number}\n", 1) for number in range(3, 7))
+    with station(SERVER, options=("store.retry_s = 600",), text=text, workers=1) as (one, peer):
+        folder = one.received()
+        with small_disk(folder, "size=32k"):
+            receiver = Receiver(one, peer)
+            (folder / "filler").write_bytes(bytes(32_768))
+            small = []
+            # eight files of each of five sources, one for each lane
+            for place in range(40):
+                source = 2 + place // 8
+                if place % 10 == 9:
+                    small.append(receiver.send(b"small%d" % place, bytes(3_000), source))
+                else:
+                    receiver.send(b"large%d" % place, bytes(40_000), source)
+                until(lambda waiting=place + 1: len(storing(receiver.client)) == waiting, "one more file that waits")
+            (folder / "filler").unlink()
+            begun = time.monotonic()
+            want([receiver.stored(seq) for seq in small], [("retained", None)] * 4)
+            # with one try each second for all of them, thirty tries of others come between these four
+            want(time.monotonic() - begun < 20, True)
 
 
 @case

@@ -474,6 +474,16 @@ def end_of_file(seq, octets, source=2):
     return pdu("directive", seq, bytes([4, 0]) + (total % 2**32).to_bytes(4, "big") + len(octets).to_bytes(4, "big"), source)
 
 
+def in_class_2(datagram):
+    """The same PDU in a transaction of class 2."""
+    return bytes([datagram[0] & ~0x04]) + datagram[1:]
+
+
+def ack_of_finished(seq):
+    """An ACK (Finished) in class 2."""
+    return in_class_2(pdu("directive", seq, bytes([6, 0x51, 0x00])))
+
+
 CASES = []
 
 

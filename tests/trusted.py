@@ -14,6 +14,7 @@ from crates import read_layers
 
 TOP = pathlib.Path(__file__).resolve().parent.parent
 PAGE = TOP / "docs" / "trusted.md"
+README = TOP / "README.md"
 WIDTH = 120
 MEANING, CODE, ROWS = "Meaning", "Of the code", "Rows"
 
@@ -50,7 +51,13 @@ that no contract says are only tested or not claimed (`docs/proved.md`).
 
 Of the system's disk the crates `disk` and `whole_files` trust this (`crates/disk/README.md`): that each method of `SystemDisk` asks the
 system for what it notes, that a call which found its path taken did nothing, that a read returns what is there, and that a power cut
-leaves no more than `crates/disk/specs/Crash.antt` says."""
+leaves no more than `crates/disk/specs/Crash.antt` says. `docs/operating.md` says which file systems do that."""
+
+RESTS = """## What the promises of the README rest on
+
+Whoever wants to believe one promise of the README reads its list: the definitions that the contracts of its crates' public calls cite,
+directly or through others. The first promise, that every function is safe, needs none. The others rest on {all} of the {listed} that
+are listed below."""
 
 READING = """## How to read a definition
 
@@ -63,6 +70,13 @@ applies. `Answers.antt` has one definition for each row of the table: a `Respons
 whether the file is handed out and which timers it arms; `and_then` joins two. `accepted_at` makes the answer of a response: the PDUs in
 their order come from the response, the timer operations (`effect_of`) from the state after the step. `answer_at` is refusal and answer
 together.
+
+**The queue of a user, among threads**, is three things at each moment: the bundles that the user's port has taken, those that the queue
+holds, and for each lane what it has put in. The rule (`queue_rule`, `Rule.antt`) says: each bundle that was taken or is held is of one of
+the user's lanes; and if of those taken, and then those held, only the bundles of one lane are kept, they are just what that lane put in, in
+its order. What a lane puts in is a lane list: the words of its transactions, one after the other. Each step of each thread keeps this rule;
+the promises on what a user takes among threads follow from it alone, so the rule and what each participant knows (`Views.antt`) have to be
+believed, and not the queue's slots and counters.
 
 **Worked transactions** are lemmas that the checker computes on both sides. PDUs are in them as hex numbers, by `digits`, as they travel.
 There a refusal isn't an answer: indications, PDUs and the deposit are an option. Each whole transaction comes with the lemma that its log
@@ -125,7 +139,7 @@ what a disk was asked; what a power cut may leave of it; which faults may pass: 
 what is promised of a file on a disk; how long it stays; why each flush is needed: disk/Promise Staying Needed
 what is known of a disk while a file is stored and written on: disk/Parts
 files that are stored over a part: whole_files/Wholes PartSteps
-what the file of numbers covers; its text; what it has after a power cut; its laws: number_file/Rounds Texts Files RoundLaws program_numbers/Held
+what the file of numbers covers; its text; what it has after a power cut; its laws: number_file/Rounds Texts Files RoundLaws LanePlaces program_numbers/Held
 what an outbox's file says; its text; what it has after a power cut: outbox_file/Books Texts Files
 what an outbox and its file say together: held_outbox/Held
 how a word is written in a command; the words of commands that change something: command_words/Words Commands
@@ -155,7 +169,7 @@ which number begins next toward an entity, and its law; with how many lanes file
 where a PDU goes, how far its data reaches; when a step's timers expire: program_udp/Peers Reaches program_desk/Steps
 what a program prints for a fault: program_start/Faults
 what a program replies to a command line by which nothing starts: program_replies/Replies
-what the server prints of an answer, of what became of a request, and of a configuration that makes little sense; exit status and progress of a put: server_answers/Answers Remarks server_outcomes/Outcomes cfdp_send/Ended Progress
+what the server prints of an answer, of what became of a request, and of a configuration that makes little sense; exit status and progress of a put: server_answers/Answers Outcomes Remarks cfdp_send/Ended Progress
 which paths a Unix socket can have: unix_sockets/Addresses
 the texts of configurations that tests read: test_configs/Texts
 """
@@ -270,13 +284,47 @@ def believed(found):
     left = [path for path, one in found.items() if one.kind == MEANING]
     for crate in PROMISING:
         left += cited_by_calls(crate)
-    seen = set()
+    return with_cited(left, found)
+
+
+def with_cited(left, found):
+    """These files, and those that they cite, directly or through others."""
+    left, seen = list(left), set()
     while left:
         path = left.pop()
         if path in found and path not in seen:
             seen.add(path)
             left += found[path].cites
     return seen
+
+
+# ---- the promises of the README
+
+def promises():
+    """Each promise of the README: its number, its text without links, and the crates that carry it."""
+    text = README.read_text().split("## What is promised", 1)[1].split("Each of these is the contract", 1)[0]
+    for number, said in re.findall(r"^(\d+)\. (.*?)(?=^\d+\. |\Z)", text, re.M | re.S):
+        crates = re.findall(r"\(crates/(\w+)/README\.md\)", said)
+        words = re.sub(r"\[([^\]]*)\]\([^)]*\)", r"\1", " ".join(said.split()))
+        yield int(number), words, crates
+
+
+def rests_on(groups, found):
+    """What each promise rests on, and all of them together."""
+    order = [crate for _, crates in groups for crate in crates]
+    every, parts = set(), []
+    for number, words, crates in promises():
+        files = with_cited([path for crate in crates for path in cited_by_calls(crate)], found)
+        every |= files
+        if not files:
+            continue
+        names = collections.defaultdict(list)
+        for path in sorted(files):
+            names[found[path].crate].append(path.stem)
+        listed = "; ".join(f"`{crate}` {' '.join(names[crate])}" for crate in order if crate in names)
+        parts.append("\n".join(textwrap.wrap(f"**{number}.** {words}", WIDTH, break_long_words=False, break_on_hyphens=False))
+                     + "\n\n" + "\n".join(textwrap.wrap(f"{counted(files, found)}: {listed}.", WIDTH, break_long_words=False, break_on_hyphens=False)))
+    return every, "\n\n".join(parts)
 
 
 # ---- definitions in the code itself
@@ -317,7 +365,9 @@ def page():
     cited = (f"A definition of meaning, or the contract of a public call of one of the crates that carry the promises of "
              f"the README or that programs go by ({', '.join(f'`{one}`' for one in PROMISING)}), cites {len(others)} files of the code or of rows, directly or through "
              f"others: these are listed, too, marked as what they are.")
-    out = ["\n".join(wrap_intro(INTRO.format(cited=cited))), "\n".join(wrap_intro(READING))]
+    every, rests = rests_on(groups, found)
+    head = RESTS.format(all=counted(every, found), listed=counted(listed, found))
+    out = ["\n".join(wrap_intro(INTRO.format(cited=cited))), "\n".join(wrap_intro(head)), rests, "\n".join(wrap_intro(READING))]
     out.append("## Where each notion is defined\n\n" + map_table())
     for title, crates in groups:
         files = [path for path in listed if found[path].crate in crates]

@@ -130,7 +130,6 @@ def routes(port):
               "# TYPE cfdp_datagrams_received_total counter\ncfdp_datagrams_received_total 12\n", "cfdp_up 1\n",
               'cfdp_queue_bundles{user="ops"} 3\n', 'cfdp_refused_datagrams_total{reason="DecodeFault",fault="3"} 3\n',
               'cfdp_remote_held{remote="5"} 0\n', 'cfdp_transactions{state="active"} ',
-              "# TYPE cfdp_ended_reads_total counter\ncfdp_ended_reads_total 2\n",
               '# TYPE cfdp_parked_datagrams gauge\ncfdp_parked_datagrams{user="ops",lane="0"} 12\n',
               'cfdp_parked_datagrams{user="ops",lane="2"} 0\n', 'cfdp_parked_transactions{user="ops",lane="1"} 2\n',
               'cfdp_parked_octets{user="ops",lane="1"} 17000\n',
@@ -488,7 +487,7 @@ def main():
     check("no station: 503", ask(port, "/status.json")[0] == 503 and ask(port, "/healthz")[0] == 503)
     check("no station: /metrics says so", ask(port, "/metrics")[2].endswith(b"\ncfdp_up 0\n"))
     check("no station: the page", ask(port, "/")[0] == 200)
-    station = start_station("--transactions", "4", "--odd", "--ended-reads", "2", "--reading", "a,b,c", "--parked", "2", "--note", "--storing", "2",
+    station = start_station("--transactions", "4", "--odd", "--reading", "a,b,c", "--parked", "2", "--note", "--storing", "2",
                             "--recorded", "7,2,1")
     check("the station comes", wait_for(lambda: ask(port, "/healthz")[0] == 200))
     routes(port)

@@ -29,9 +29,9 @@ from dataclasses import dataclass, replace
 from typing import NamedTuple
 
 __all__ = [
-    "PDU_MAX", "Bundle", "Class", "Closed", "Condition", "ConfigurationFault", "Delivery", "Deposit", "Done", "Entity", "Error",
-    "FileStatus", "Image", "Indication", "Kind", "OutOfMemory", "Phase", "Refusal", "Remote", "Request", "Timer", "TimerKind",
-    "Transaction",
+    "PDU_MAX", "Bundle", "Checksum", "Class", "Closed", "Condition", "ConfigurationFault", "Delivery", "Deposit", "Done", "Entity",
+    "Error", "FileStatus", "Handler", "Image", "Indication", "Kind", "NotAllowed", "OutOfMemory", "Phase", "Refusal", "Remote",
+    "Request", "Role", "Running", "Setting", "Timer", "TimerKind", "TooLate", "Transaction",
 ]
 
 __version__ = "0.1"
@@ -43,7 +43,7 @@ PDU_MAX = 1600
 """No PDU that an entity sends is longer."""
 
 OK, REFUSED, NOTHING, CLOSED, OPEN, NO_MEMORY, NO_ROOM = 0, 1, 2, -1, -2, -3, -4
-BAD_CONFIG, MESSAGE_TOO_LONG, TOO_MANY_MESSAGES = -7, -10, -11
+BAD_CONFIG, MESSAGE_TOO_LONG, TOO_MANY_MESSAGES, NOT_ALLOWED, TOO_LATE = -7, -10, -11, -13, -14
 
 
 # ---- the library
@@ -86,6 +86,11 @@ class _Remote(ctypes.Structure):
     _fields_ = [("id", ctypes.c_uint64), ("user", ctypes.c_size_t)]
 
 
+class _Running(ctypes.Structure):
+    _fields_ = [(name, ctypes.c_uint64) for name in ("source", "seq", "peer", "size")] + [
+        (name, ctypes.c_uint32) for name in ("sends", "service", "phase", "progress", "sized", "events")]
+
+
 class _Bundle(ctypes.Structure):
     _fields_ = [
         ("source", ctypes.c_uint64), ("seq", ctypes.c_uint64), ("user", ctypes.c_size_t), ("lane", ctypes.c_size_t),
@@ -107,6 +112,8 @@ _SIGNATURES = {
     "cfdp_open": [_H, *_IN, ctypes.POINTER(ctypes.c_uint32), *_OUT],
     "cfdp_explain": [*_IN, *_OUT],
     "cfdp_close": [_H],
+    "cfdp_set": [_H, ctypes.c_uint32, _N],
+    "cfdp_set_handler": [_H, ctypes.c_uint32, ctypes.c_uint32, ctypes.c_uint32],
     "cfdp_deliver": [_H, *_IN, _DONE],
     "cfdp_put": [_H, _SIZE, _SIZE, _N, ctypes.c_uint32, ctypes.c_bool, *_IN, *_IN, *_IN, _DONE],
     "cfdp_message": [_H, *_IN],
@@ -131,6 +138,8 @@ _SIGNATURES = {
     "cfdp_remotes": [_H, _COUNT],
     "cfdp_remote": [_H, _SIZE, ctypes.POINTER(_Remote)],
     "cfdp_address": [_H, _N, *_OUT],
+    "cfdp_lanes": [_H, _SIZE, _COUNT],
+    "cfdp_transaction": [_H, _SIZE, _SIZE, ctypes.POINTER(_Running)],
     "cfdp_users": [_H, _COUNT],
     "cfdp_put_lanes": [_H, _COUNT],
     "cfdp_error_name": [ctypes.c_int32, *_OUT],
@@ -192,6 +201,14 @@ class Closed(Error):
     """The entity is closed."""
 
 
+class NotAllowed(Error):
+    """A setting may not have this value: a number is out of range, or the role doesn't allow the handler for the condition."""
+
+
+class TooLate(Error):
+    """The entity has received an event, and no setting may follow."""
+
+
 class ConfigurationFault(Error):
     """The configuration was refused: the fault's number, the key or the table where it is, and a sentence that says the line, what
     is found there and what is allowed."""
@@ -246,6 +263,42 @@ class TimerKind(_Number):
     NAK = 2
     CHECK = 3
     INACTIVITY = 4
+
+
+class Setting(_Number):
+    """What can be set before the first event: for how many bundles each user's queue has room, where the numbers of Puts begin, which
+    expiration of a timer is a fault, and the checksum of sent files."""
+
+    CAPACITY = 1
+    FIRST = 2
+    ACK_LIMIT = 3
+    NAK_LIMIT = 4
+    CHECK_LIMIT = 5
+    CHECKSUM = 6
+
+
+class Checksum(_Number):
+    """The checksum of files that the entity sends."""
+
+    MODULAR = 0
+    NULL = 15
+
+
+class Role(_Number):
+    """The end of a transaction whose handlers are set."""
+
+    SEND = 1
+    RECV_CLASS_1 = 2
+    RECV_CLASS_2 = 3
+
+
+class Handler(_Number):
+    """What the entity does when a fault is declared."""
+
+    CANCEL = 1
+    SUSPEND = 2
+    IGNORE = 3
+    ABANDON = 4
 
 
 class Request(_Number):
@@ -373,6 +426,25 @@ class Remote:
 
 
 @dataclass(frozen=True)
+class Running:
+    """A transaction that has begun and not ended: the lane in which it runs, the entity at the other end, whether this entity sends the
+    file, its class, its phase, the octets in the file (None before a receiver has the Metadata), one more than the greatest offset
+    that was sent or received, and how many events it has accepted."""
+
+    user: int
+    lane: int
+    source: int
+    seq: int
+    peer: int
+    sends: bool
+    service: Class
+    phase: Phase
+    size: int | None
+    progress: int
+    events: int
+
+
+@dataclass(frozen=True)
 class Done:
     """What an event left: the PDUs to send, the timer operations in order, a file for the file store, and the entity to which
     each PDU goes."""
@@ -491,10 +563,8 @@ class Entity:
     def _check(code: int) -> int:
         if code == NO_MEMORY:
             raise MemoryError("the entity has no memory")
-        if code == CLOSED:
-            raise Closed(code)
         if code < 0:
-            raise Error(code)
+            raise {CLOSED: Closed, NOT_ALLOWED: NotAllowed, TOO_LATE: TooLate}.get(code, Error)(code)
         return code
 
     def _copied(self, function, *before: int) -> bytes | None:
@@ -551,6 +621,21 @@ class Entity:
         if len(pdus) < done.pdus:
             raise OutOfMemory(left, done.pdus - len(pdus))
         return left
+
+    def set(self, setting: Setting, value: int) -> None:
+        """Changes a number of the configuration, for every remote entity. The entity is made anew, so this is for the time before
+        its first event: TooLate once it has received one. NotAllowed if the number is out of range."""
+        kind, number = Setting(setting), _number(value, 64, "value")
+        if kind == Setting.CHECKSUM:
+            number = int(Checksum(number))
+        with self._lock:
+            self._check(_library.cfdp_set(self._handle, int(kind), number))
+
+    def set_handler(self, role: Role, condition: Condition, handler: Handler) -> None:
+        """Changes the handler of a condition, likewise. NotAllowed if the role doesn't allow it for that condition."""
+        numbers = int(Role(role)), int(Condition(condition)), int(Handler(handler))
+        with self._lock:
+            self._check(_library.cfdp_set_handler(self._handle, *numbers))
 
     def deliver(self, datagram: bytes) -> Done:
         """A datagram was received."""
@@ -683,6 +768,28 @@ class Entity:
         """The remote entities of the configuration, in its order."""
         with self._lock:
             return tuple(self._remote(place) for place in range(self._count(_library.cfdp_remotes)))
+
+    def lanes(self, user: int) -> int:
+        """The number of lanes of a user: first those in which it sends, then those in which it receives; 0 if there is no such user."""
+        count, user = ctypes.c_size_t(), _number(user, _SIZE_BITS, "user")
+        with self._lock:
+            return 0 if self._check(_library.cfdp_lanes(self._handle, user, count)) == NOTHING else count.value
+
+    def running(self, user: int, lane: int) -> Running | None:
+        """The transaction that runs in a lane of a user, if one does."""
+        it, user, lane = _Running(), _number(user, _SIZE_BITS, "user"), _number(lane, _SIZE_BITS, "lane")
+        with self._lock:
+            if self._check(_library.cfdp_transaction(self._handle, user, lane, it)) == NOTHING:
+                return None
+        return Running(user, lane, it.source, it.seq, it.peer, bool(it.sends), Class(it.service), Phase(it.phase),
+                       it.size if it.sized else None, it.progress, it.events)
+
+    @property
+    def transactions(self) -> tuple[Running, ...]:
+        """All transactions that have begun and not ended, by user and lane."""
+        with self._lock:
+            found = (self.running(user, lane) for user in range(self.users) for lane in range(self.lanes(user)))
+            return tuple(one for one in found if one)
 
     def _remote(self, place: int) -> Remote:
         remote = _Remote()

@@ -2,15 +2,19 @@
 use Rattle.std.specs.Prelude.{◌≡◌, ℕ, pos, negsuc, [], ◌∷◌, Some, None, codes}
 use Rattle.std.proofs.Common.{refl, arith}
 use Rattle.cfdp_types.specs.declared.key.TxnKey.{TxnKey}
+use Rattle.cfdp_types.specs.declared.names.Checksum.TheVariants.{Null}
 use Rattle.cfdp_types.specs.declared.names.Class.TheVariants.{Two}
+use Rattle.cfdp_types.specs.declared.names.Handler.TheVariants.{Ignore}
+use Rattle.cfdp_types.specs.declared.names.Role.TheVariants.{RecvOne}
 use Rattle.cfdp_types.specs.declared.names.TimerKind.TheVariants as timer
 use Rattle.cfdp_types.specs.declared.put_request.PutFault.TheVariants as put
 use Rattle.config_reading.specs.declared.fault.ConfigFault.TheVariants as fault
 use Rattle.config_reading.specs.declared.fault.Key.TheVariants as key
 use Rattle.config_reading.specs.declared.fault.Section.TheVariants as section
+use Rattle.entity_config.specs.declared.setting.Setting.TheVariants as setting
 use Rattle.entity_routing.specs.declared.world_event.Request.TheVariants as requests
 use Rattle.cfdp_c.specs.declared.codes.TheConstants.{OK, NOTHING, NO_ROOM}
-use Rattle.cfdp_c.specs.Codes.{class_of, place_text, put_code, request_of, timer_kind}
+use Rattle.cfdp_c.specs.Codes.{class_of, handler_setting, place_text, put_code, request_of, setting_of, timer_kind}
 use Rattle.cfdp_c.specs.Names.{code_text, refusal_text}
 use Rattle.cfdp_c.specs.Calls.{IsCopied, IsCut, IsGiven}
 
@@ -46,6 +50,21 @@ row-no-request = refl
 row-name-too-long : put_code put.NameTooLong ≡ negsuc 8
 row-name-too-long = refl
 
+row-first : setting_of 2 9 ≡ Some (setting.First 9)
+row-first = refl
+
+row-null-checksum : setting_of 6 15 ≡ Some (setting.Checksum Null)
+row-null-checksum = refl
+
+row-no-checksum : setting_of 6 1 ≡ None
+row-no-checksum = refl
+
+row-handler : handler_setting 2 10 3 ≡ Some (setting.Handler RecvOne 10 Ignore)
+row-handler = refl
+
+row-no-condition : handler_setting 2 16 3 ≡ None
+row-no-condition = refl
+
 -- ---- names
 
 row-missing-key : place_text (fault.MissingKey key.Address) ≡ codes "address"
@@ -62,6 +81,9 @@ row-ok = refl
 
 row-no-room : code_text (negsuc 3) ≡ Some (codes "NO_ROOM")
 row-no-room = refl
+
+row-too-late : code_text (negsuc 13) ≡ Some (codes "TOO_LATE")
+row-too-late = refl
 
 row-no-code : code_text (negsuc 11) ≡ None
 row-no-code = refl

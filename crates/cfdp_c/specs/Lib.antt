@@ -3,3 +3,4 @@ pub mod Names
 pub mod Codes
 pub mod Calls
 pub mod Explaining
+pub mod Setting

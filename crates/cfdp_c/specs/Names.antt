@@ -12,7 +12,8 @@ code_text (negsuc number) =
     if number == 4 then Some (codes "BAD_NUMBER") else if number == 5 then Some (codes "UNKNOWN") else
     if number == 6 then Some (codes "BAD_CONFIG") else if number == 7 then Some (codes "NO_NAME") else
     if number == 8 then Some (codes "NAME_TOO_LONG") else if number == 9 then Some (codes "MESSAGE_TOO_LONG") else
-    if number == 10 then Some (codes "TOO_MANY_MESSAGES") else None
+    if number == 10 then Some (codes "TOO_MANY_MESSAGES") else if number == 12 then Some (codes "NOT_ALLOWED") else
+    if number == 13 then Some (codes "TOO_LATE") else None
 
 -- the name of the refusal of this number
 abbrev pub refusal_text : ℕ → Option (List ℕ)

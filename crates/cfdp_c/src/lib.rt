@@ -13,6 +13,7 @@ mod opening;
 mod owner;
 mod peers;
 mod putting;
+mod setting;
 mod ticking;
 
 pub use handle::Handle;

@@ -29,6 +29,8 @@ fn code_text(code: i32) -> Option<&'static str>
         -9 => Some("NAME_TOO_LONG"),
         -10 => Some("MESSAGE_TOO_LONG"),
         -11 => Some("TOO_MANY_MESSAGES"),
+        -13 => Some("NOT_ALLOWED"),
+        -14 => Some("TOO_LATE"),
         _ => None,
     }
 }

@@ -1,16 +1,16 @@
-//! The entities and users of a configuration, by their places.
-ghost use Rattle.std.specs.Prelude.{◌≡◌, find, length, option_copied, option_map, slice_get};
+//! The entities and users of a configuration, and open transactions, by their places.
+ghost use Rattle.std.specs.Prelude.{◌≡◌, ◌⊎◌, find, length, option_copied, option_map, slice_get};
 ghost use Rattle.config_reading.specs.Values.{has_id};
-ghost use Rattle.cfdp_session.specs.Flat.{flat_remote};
+ghost use Rattle.cfdp_session.specs.Flat.{flat_remote, lanes_in, open_at};
 ghost use Rattle.cfdp_session.specs.Kept.{addressee, pdus_of};
 ghost use Rattle.cfdp_c.specs.Calls.{Asked, IsCopied, IsGiven};
 
 use crate::asking::give;
-use crate::codes::{CLOSED, OK};
+use crate::codes::{CLOSED, NO_MEMORY, OK};
 use crate::copies::copy;
 use crate::handle::Handle;
 use crate::hold::{keep, take};
-use cfdp_session::{FlatRemote, Session};
+use cfdp_session::{FlatRemote, FlatTransaction, Session};
 use cfdp_types::EntityId;
 use std::alloc::Global;
 
@@ -139,4 +139,55 @@ pub extern "C" fn cfdp_remote(
     let code = give(session.remote(index), remote);
     *handle = keep(session);
     code
+}
+
+/// Reports how many lanes a user has: those in which it sends, then those in which it receives.
+#[unsafe(no_mangle)]
+pub extern "C" fn cfdp_lanes(
+    alloc: Global,
+    handle: &mut Handle,
+    user: usize,
+    count: &mut usize,
+) -> i32
+    ensures asked { Asked result handle.old.owner.held (λ session. IsGiven result
+        (lanes_in session.world.config user) count.new) }
+    ensures same { handle.new.owner.held ≡ handle.old.owner.held }
+{
+    let Some(session) = take(handle, alloc) else {
+        return CLOSED;
+    };
+    let code = give(session.lanes(user), count);
+    *handle = keep(session);
+    code
+}
+
+/// Gives the transaction that a lane of a user runs.
+#[unsafe(no_mangle)]
+pub extern "C" fn cfdp_transaction(
+    alloc: Global,
+    handle: &mut Handle,
+    user: usize,
+    lane: usize,
+    txn: &mut FlatTransaction,
+) -> i32
+    ensures asked { Asked result handle.old.owner.held (λ session. (result ≡ NO_MEMORY) ⊎ IsGiven result
+        (open_at session.world.posts user lane) txn.new) }
+    ensures same { handle.new.owner.held ≡ handle.old.owner.held }
+{
+    let Some(session) = take(handle, alloc) else {
+        return CLOSED;
+    };
+    let code = transaction(&session, user, lane, txn);
+    *handle = keep(session);
+    code
+}
+
+// The transaction that a lane runs.
+fn transaction(session: &Session, user: usize, lane: usize, txn: &mut FlatTransaction) -> i32
+    ensures { (result ≡ NO_MEMORY) ⊎ IsGiven result (open_at session.now.world.posts user lane) txn.new }
+{
+    match session.transaction(user, lane) {
+        Ok(found) => give(found, txn),
+        Err(_) => NO_MEMORY,
+    }
 }

@@ -43,4 +43,8 @@ impl StationFiles for RefusingStore {
     fn place(&self) -> &str {
         ""
     }
+
+    fn reason(&self) -> &'static str {
+        "this program keeps no files"
+    }
 }

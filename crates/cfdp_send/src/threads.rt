@@ -5,7 +5,7 @@ use crate::refusing::RefusingStore;
 use answer_texts::push_bundle;
 use cfdp_types::{PutRequest, TxnKey};
 use entity_routing::Request;
-use program_arrivals::Sources;
+use program_arrivals::{Sources, Turns};
 use program_common::Common;
 use program_desk::{Desk, Step, Urgency, moment};
 use program_numbers::HeldNumbers;
@@ -109,7 +109,8 @@ pub(crate) fn put_over<
         socket,
         desk: &desk,
     };
-    let kept = (&depot, &tallies);
+    let turns = Turns::new(alloc, entity.config(), 1)?;
+    let kept = (&depot, &tallies, &turns);
     put_at(&common, ports, kept, run)
 }
 
@@ -125,12 +126,13 @@ fn put_at<
 >(
     common: &Common<'x, N, R>,
     ports: Vec<UserPort>,
-    kept: (&'x Depot, &'x Tallies),
+    kept: (&'x Depot, &'x Tallies, &'x Turns),
     run: Run<R, W, P>,
 ) -> Result<u8, ProgramFault> {
     let sources = run.wanted.sources;
-    let putter = putter_over(common, ports, kept, run)?;
-    let way_in = WayIn::new(common, kept.1, Urgency::Soon, sources, None)?;
+    let (depot, tallies, turns) = kept;
+    let putter = putter_over(common, ports, (depot, tallies), run)?;
+    let way_in = WayIn::new(common, (tallies, turns), Urgency::Soon, sources, None)?;
     run_beside(common, way_in, putter)
 }
 

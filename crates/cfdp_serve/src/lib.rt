@@ -2,14 +2,13 @@
 //! commands say.
 #![tactic(auto)]
 
-mod console;
-mod kept;
 mod named;
 mod opening;
+mod parts;
+mod rooms;
 mod serving;
 mod setting;
 mod threads;
-mod working;
 
 pub use opening::Streams;
 pub use server_recording::{FolderStoring, ServerFiles};

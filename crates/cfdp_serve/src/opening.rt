@@ -1,16 +1,17 @@
 //! What a server opens before its threads start: its socket, what it keeps over restarts, and where clients command it.
-use crate::kept::{Kept, OutboxHold};
 use crate::named::serve_named;
 use entity_config::Config;
+use event_log::LogFiles;
 use program_control::ControlSocket;
 use program_seats::Seats;
 use program_start::{FileReader, ProgramFault};
 use program_threads::Control;
 use program_udp::open_socket;
+use server_opening::{Kept, OutboxHold, Start, control_sockets};
 use server_recording::ServerFiles;
 use station_config::{ControlSettings, Settings};
 use std::alloc::Global;
-use std::io::{Read, Write};
+use std::io::{BufRead, Write};
 use std::net::{Net, UdpSocket};
 use std::rt::Files;
 use std::sync::Wait;
@@ -26,7 +27,7 @@ pub struct Streams<I: Drop, W: Drop> {
 
 /// What a server starts from: its runtime, what reads files to be sent, what it was told, and the text of the file with
 /// its configuration.
-#[derive(Drop)]
+#[derive(Clone, Copy)]
 pub(crate) struct Starting<'x, R, F> {
     pub(crate) rt: &'x R,
     pub(crate) alloc: Global,
@@ -42,124 +43,104 @@ pub(crate) struct Sockets<'x> {
     pub(crate) control: Option<Control<'x>>,
 }
 
-/// Opens all that the settings name, and serves. Meanwhile other servers are kept from the file of the outbox. The text
-/// is that of the file with the configuration.
+/// Opens all that the settings name, and serves. Meanwhile other servers are kept from the file of the outbox.
 pub(crate) fn open<
     R: Threads + Wait + Net + Clock + Files + AllocGlobal + Copy + Drop + Send + Sync,
-    F: FileReader + ServerFiles + Sync,
-    I: Read + Send + Drop,
+    F: FileReader + ServerFiles + LogFiles + Sync,
+    B: BufRead + Send + Drop,
     W: Write + Drop,
 >(
     rt: &R,
     alloc: Global,
     files: &F,
-    (settings, text): (&Settings, &str),
+    started: &Start<'_>,
     config: Config,
-    streams: Streams<I, W>,
+    streams: Streams<B, W>,
 ) -> Result<u8, ProgramFault> {
-    let datagrams = bound_by(rt, settings)?;
+    let settings = &started.settings;
+    let datagrams = open_socket(rt, settings.station.bind.as_str())?;
     let starting = Starting {
         rt,
         alloc,
         files,
         settings,
-        text,
+        text: started.text.as_str(),
     };
-    serve_held(&starting, config, &datagrams, streams)
-}
-
-// The socket for datagrams, at the address that the settings name.
-fn bound_by<R: Net>(rt: &R, settings: &Settings) -> Result<UdpSocket, ProgramFault> {
-    open_socket(rt, settings.station.bind.as_str())
-}
-
-// Serves while other servers are kept from the file of the outbox, if there is one.
-fn serve_held<
-    'x,
-    R: Threads + Wait + Net + Clock + Files + AllocGlobal + Copy + Drop + Send + Sync,
-    F: FileReader + ServerFiles + Sync,
-    I: Read + Send + Drop,
-    W: Write + Drop,
->(
-    starting: &Starting<'x, R, F>,
-    config: Config,
-    datagrams: &'x UdpSocket,
-    streams: Streams<I, W>,
-) -> Result<u8, ProgramFault> {
-    let (rt, settings) = (starting.rt, starting.settings);
     let Some(path) = &settings.sending.outbox else {
-        return serve_kept(starting, config, datagrams, streams);
+        return serve_kept(&starting, config, &datagrams, streams);
     };
-    let hold = OutboxHold::open(rt, starting.alloc, path.as_str())?;
-    let ended = serve_kept(starting, config, datagrams, streams);
+    let hold = OutboxHold::open(rt, alloc, path.as_str())?;
+    let ended = serve_kept(&starting, config, &datagrams, streams);
     hold.leave(rt);
     ended
 }
 
-// Serves with what the server keeps over restarts, by the lines of a reader or by those of clients.
+// Serves with what the server keeps over restarts.
 fn serve_kept<
     'x,
     R: Threads + Wait + Net + Clock + Files + AllocGlobal + Copy + Drop + Send + Sync,
-    F: FileReader + ServerFiles + Sync,
-    I: Read + Send + Drop,
+    F: FileReader + ServerFiles + LogFiles + Sync,
+    B: BufRead + Send + Drop,
     W: Write + Drop,
 >(
     starting: &Starting<'x, R, F>,
     config: Config,
     datagrams: &'x UdpSocket,
-    streams: Streams<I, W>,
+    streams: Streams<B, W>,
 ) -> Result<u8, ProgramFault> {
-    let Starting {
-        rt,
-        alloc,
-        settings,
-        ..
-    } = *starting;
+    let (rt, settings) = (starting.rt, starting.settings);
     let mut config = config;
-    let kept = Kept::open(rt, alloc, &settings.sending, &mut config)?;
-    let Some(told) = &settings.control else {
-        let sockets = Sockets {
-            datagrams,
-            control: None,
-        };
-        return serve_named(starting, config, sockets, kept, streams);
-    };
-    let seats = Seats::new(alloc)?;
-    let (socket, watched) = control_sockets(rt, alloc, told)?;
+    let kept = Kept::open(rt, starting.alloc, &settings.sending, &mut config)?;
+    match &settings.control {
+        Some(told) => serve_controlled(starting, config, datagrams, (kept, told), streams),
+        None => {
+            let sockets = Sockets {
+                datagrams,
+                control: None,
+            };
+            serve_named(starting, config, sockets, kept, streams)
+        }
+    }
+}
+
+// Serves by the lines of clients.
+fn serve_controlled<
+    'x,
+    R: Threads + Wait + Net + Clock + Files + AllocGlobal + Copy + Drop + Send + Sync,
+    F: FileReader + ServerFiles + LogFiles + Sync,
+    B: BufRead + Send + Drop,
+    W: Write + Drop,
+>(
+    starting: &Starting<'x, R, F>,
+    config: Config,
+    datagrams: &'x UdpSocket,
+    (kept, told): (Kept<R>, &'x ControlSettings),
+    streams: Streams<B, W>,
+) -> Result<u8, ProgramFault> {
+    let seats = Seats::new(starting.alloc)?;
+    let (socket, watched) = control_sockets(starting.rt, starting.alloc, told)?;
+    let control = control_of((&socket, &watched), &seats, told);
     let sockets = Sockets {
         datagrams,
-        control: Some(Control {
-            socket: &socket,
-            path: told.socket.as_str(),
-            seats: &seats,
-            watched: &watched,
-            watched_path: match &told.status_socket {
-                Some(path) => path.as_str(),
-                None => "",
-            },
-        }),
+        control: Some(control),
     };
     serve_named(starting, config, sockets, kept, streams)
 }
 
-// Opens the socket where clients command a server, and the one where they only look, if there is one.
-fn control_sockets<R: Net + Files>(
-    rt: &R,
-    alloc: Global,
-    told: &ControlSettings,
-) -> Result<(ControlSocket, Option<ControlSocket>), ProgramFault> {
-    let path = told.socket.as_str();
-    let Ok(socket) = ControlSocket::open_for(rt, alloc, path, Some(told.mode)) else {
-        return Err(ProgramFault::Bind);
-    };
-    let Some(beside) = &told.status_socket else {
-        return Ok((socket, None));
-    };
-    match ControlSocket::open_for(rt, alloc, beside.as_str(), Some(told.mode)) {
-        Ok(watched) => Ok((socket, Some(watched.for_watchers()))),
-        Err(_) => {
-            socket.leave(rt, path);
-            Err(ProgramFault::Bind)
-        }
+// The sockets of clients, with their paths and seats.
+fn control_of<'x>(
+    (socket, watched): (&'x ControlSocket, &'x Option<ControlSocket>),
+    seats: &'x Seats,
+    told: &'x ControlSettings,
+) -> Control<'x> {
+    Control {
+        socket,
+        path: told.socket.as_str(),
+        seats,
+        watched,
+        watched_path: match &told.status_socket {
+            Some(path) => path.as_str(),
+            None => "",
+        },
     }
 }

@@ -1,12 +1,10 @@
 //! What a station was told of its links and its log, carried out at the start.
+use event_log::{LogLines, LogQueue};
 use program_desk::{moment, wall_moment};
-use program_seats::Seats;
 use program_station::Station;
-use program_status::{EventLog, Events};
 use shared_lanes::Names;
 use station_config::{LogSettings, Settings};
-use std::alloc::{AllocError, Global};
-use std::rt::Files;
+use std::alloc::Global;
 use std::sync::Wait;
 use std::time::Clock;
 
@@ -34,22 +32,14 @@ pub(crate) fn set_links<N: Names, R: Wait + Clock + Copy>(
     }
 }
 
-/// The events of a server, if clients or a log may read them.
-pub(crate) fn events_of<'x, R: Wait + Files>(
+/// The lines for a server's log, if it has one.
+pub(crate) fn log_lines<'x>(
     alloc: Global,
     settings: &LogSettings,
-    seats: Option<&'x Seats>,
-) -> Result<Option<Events<'x, R>>, AllocError> {
-    let log = match &settings.file {
-        Some(path) => {
-            let mut log = EventLog::new(alloc, String::from_str(alloc, path.as_str())?);
-            log.write_from(settings.level);
-            Some(log)
-        }
-        None => None,
-    };
-    if seats.is_none() && log.is_none() {
-        return Ok(None);
+    queue: &'x LogQueue,
+) -> Option<LogLines<'x>> {
+    if settings.file.is_none() {
+        return None;
     }
-    Ok(Some(Events::new(alloc, seats, log)?))
+    Some(LogLines::new(alloc, queue, settings.level))
 }

@@ -21,14 +21,20 @@ use Rattle.indications.specs.declared.bundle.Bundle.{Bundle}
 use Rattle.indications.specs.declared.indication.Indication.{Indication}
 use Rattle.indications.specs.declared.indication.Indication.TheVariants as told
 use Rattle.indications.specs.declared.indication.Phase.TheVariants as phase
+use Rattle.indications.specs.declared.side.Side.TheVariants.{Sender}
 use Rattle.lane_table.specs.declared.done.Done.{Done}
 use Rattle.txn_events.specs.declared.refusal.Refusal.TheVariants.{LaneBusy, QueueFull, StaleTimer, WrongState}
 use Rattle.entity_routing.specs.declared.refusal.RouteRefusal.TheVariants.{DecodeFault, NoRoute}
 use Rattle.entity_parts.specs.declared.refusal.EntityRefusal.TheVariants as answer
 use Rattle.lane_table.specs.Steps.{plainly}
-use Rattle.cfdp_session.specs.Flat.{bare, flat_bundle, flat_deposit, flat_done, flat_image, flat_indication, flat_missing, flat_timer, user_number}
+use Rattle.cfdp_session.specs.Flat.{bare, class_code, flat_bundle, flat_deposit, flat_done, flat_image, flat_indication, flat_missing, flat_timer, lanes_in, side_code, sized_file, user_number}
 use Rattle.cfdp_session.specs.Kept.{deposit_of, image_parts, indications_of, listed, parts_at, pdus_of, timers_of, toward}
 use Rattle.cfdp_session.specs.Orders.{put_to}
+use Rattle.config_reading.specs.declared.fault.ConfigFault.TheVariants as fault
+use Rattle.config_reading.specs.declared.fault.Key.TheVariants as key_of
+use Rattle.entity_config.specs.Reference.{reference_config}
+use Rattle.entity_config.specs.declared.setting.Setting.TheVariants as setting
+use Rattle.cfdp_session.specs.Plans.{with_settings}
 
 abbrev key : TxnKey
 key = record { source = record { 0 = 1 }; seq = 5 }
@@ -195,3 +201,32 @@ row-put = refl
 
 row-put-message : (put_to (record { 0 = 2 }) Two true (97 ∷ []) (98 ∷ []) (1 ∷ 2 ∷ []) ((9 ∷ []) ∷ [])).messages ≡ (9 ∷ []) ∷ []
 row-put-message = refl
+
+-- ---- settings
+
+row-settings : with_settings (setting.First 5 ∷ setting.First 7 ∷ setting.Capacity 3 ∷ []) (Ok reference_config)
+    ≡ Ok (record reference_config { entity = record reference_config.entity { first = 7; capacity = 3 } })
+row-settings = refl
+
+row-setting-refused : with_settings (setting.First 5 ∷ setting.Capacity 0 ∷ setting.First 7 ∷ []) (Ok reference_config) ≡ Err (fault.OutOfRange key_of.Capacity)
+row-setting-refused = refl
+
+-- ---- transactions that run
+
+row-no-size : sized_file None ≡ (0, 0)
+row-no-size = refl
+
+row-size : sized_file (Some (record { size = 9; source_name = []; destination_name = [] })) ≡ (9, 1)
+row-size = refl
+
+row-sends : side_code Sender ≡ 1
+row-sends = refl
+
+row-class : class_code Two ≡ 2
+row-class = refl
+
+row-lanes : lanes_in reference_config 0 ≡ Some 4
+row-lanes = refl
+
+row-no-lanes : lanes_in reference_config 2 ≡ None
+row-no-lanes = refl

@@ -1,7 +1,9 @@
 -- Meaning. Answers as numbers.
-use Rattle.std.specs.Prelude.{ℕ, ◌+◌, List, length, Option, Some, None, Result, Ok, Err}
+use Rattle.std.specs.Prelude.{ℕ, ◌+◌, nat_lt, if◌then◌else◌, List, length, Option, Some, None, option_and_then, Result, Ok, Err}
 use Rattle.cfdp_types.specs.declared.image.Image.{Image}
 use Rattle.cfdp_types.specs.declared.key.Deposit.{Deposit}
+use Rattle.cfdp_types.specs.declared.names.Class.{Class}
+use Rattle.cfdp_types.specs.declared.names.Class.TheVariants.{One, Two}
 use Rattle.cfdp_types.specs.declared.names.Delivery.{Delivery}
 use Rattle.cfdp_types.specs.declared.names.Delivery.TheVariants.{Complete, Incomplete}
 use Rattle.cfdp_types.specs.declared.names.FileStatus.{FileStatus}
@@ -16,7 +18,11 @@ use Rattle.indications.specs.declared.indication.Indication.{Indication}
 use Rattle.indications.specs.declared.indication.Indication.TheVariants as told
 use Rattle.indications.specs.declared.indication.Phase.{Phase}
 use Rattle.indications.specs.declared.indication.Phase.TheVariants as phase
+use Rattle.indications.specs.declared.side.Side.{Side}
+use Rattle.indications.specs.declared.side.Side.TheVariants.{Sender, Receiver}
 use Rattle.lane_table.specs.declared.done.Done.{Done}
+use Rattle.lane_table.specs.declared.glance.Glance.{Glance}
+use Rattle.lane_table.specs.declared.glance.GlancedFile.{GlancedFile}
 use Rattle.entity_routing.specs.declared.refusal.RouteRefusal.{RouteRefusal}
 use Rattle.entity_routing.specs.declared.refusal.RouteRefusal.TheVariants.{DecodeFault}
 use Rattle.entity_parts.specs.Refusals.{number_of}
@@ -30,7 +36,10 @@ use Rattle.cfdp_session.specs.declared.flat.FlatIndication.{FlatIndication}
 use Rattle.cfdp_session.specs.declared.flat.FlatTimer.{FlatTimer}
 use Rattle.cfdp_session.specs.declared.flat.FlatKey.{FlatKey}
 use Rattle.cfdp_session.specs.declared.flat.FlatRemote.{FlatRemote}
+use Rattle.cfdp_session.specs.declared.flat.FlatTransaction.{FlatTransaction}
 use Rattle.config_reading.specs.Values.{ConfigValue}
+use Rattle.entity_routing.specs.Places.{lanes_of}
+use Rattle.world_users.specs.Posts.{Post, glance_at}
 use Rattle.config_reading.specs.declared.remote.Remote.{Remote}
 use Rattle.cfdp_session.specs.Kept.{Last, pdus_of, parts_of}
 
@@ -57,6 +66,14 @@ phase_code phase.Active = 1
 phase_code phase.Suspended = 2
 phase_code phase.Storing = 3
 phase_code phase.Closing = 4
+
+abbrev pub side_code : Side → ℕ
+side_code Sender = 1
+side_code Receiver = 0
+
+abbrev pub class_code : Class → ℕ
+class_code One = 1
+class_code Two = 2
 
 -- ---- the result of an event
 
@@ -98,8 +115,40 @@ abbrev pub user_number : Option ℕ → ℕ
 user_number (Some user) = user
 user_number None = 18446744073709551615
 
+-- the number of lanes of a user, if there is such a user
+abbrev pub lanes_in : ConfigValue → ℕ → Option ℕ
+lanes_in config user = if nat_lt user (length config.users) then Some (lanes_of config user) else None
+
 abbrev pub flat_remote : Remote → FlatRemote
 flat_remote remote = record { id = remote.id.0; user = user_number remote.user }
+
+-- the octets of a file, and 1; 0 and 0 where they aren't known
+abbrev pub sized_file : Option GlancedFile → ℕ × ℕ
+sized_file (Some file) = (file.size, 1)
+sized_file None = (0, 0)
+
+-- a transaction, by a glance at its lane
+abbrev pub flat_transaction : Glance → FlatTransaction
+flat_transaction glance = record {
+  source = glance.key.source.0;
+  seq = glance.key.seq;
+  peer = glance.peer.0;
+  size = (sized_file glance.file).0;
+  sends = side_code glance.end;
+  class = class_code glance.class;
+  phase = phase_code glance.phase;
+  progress = glance.progress;
+  sized = (sized_file glance.file).1;
+  entries = glance.entries;
+}
+
+-- the same, of a transaction that has not ended
+abbrev pub if_open : Glance → Option FlatTransaction
+if_open glance = if glance.has_ended then None else Some (flat_transaction glance)
+
+-- the transaction that a lane runs, if there is such a lane and it runs one
+abbrev pub open_at : List Post → ℕ → ℕ → Option FlatTransaction
+open_at posts user lane = option_and_then if_open (glance_at posts user lane)
 
 abbrev pub flat_deposit : Deposit → FlatDeposit
 flat_deposit deposit = record { source = deposit.key.source.0; seq = deposit.key.seq; stamp = deposit.stamp }

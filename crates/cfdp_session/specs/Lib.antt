@@ -1,5 +1,6 @@
 pub mod Flat
 pub mod Kept
 pub mod Orders
+pub mod Plans
 pub mod Steps
 pub mod Turning

@@ -4,6 +4,7 @@ use Rattle.cfdp_types.specs.declared.image.Image.{Image}
 use Rattle.cfdp_types.specs.declared.key.TxnKey.{TxnKey}
 use Rattle.config_reading.specs.Values.{ConfigValue}
 use Rattle.config_reading.specs.Walk.{config_of}
+use Rattle.entity_config.specs.declared.setting.Setting.{Setting}
 use Rattle.indications.specs.declared.bundle.Bundle.{Bundle}
 use Rattle.lane_table.specs.declared.done.Done.{Done}
 use Rattle.world_table.specs.Histories.{Happening, takes}
@@ -15,6 +16,7 @@ use Rattle.cfdp_session.specs.declared.flat.FlatImage.{FlatImage}
 use Rattle.cfdp_session.specs.Flat.{flat_image, flat_missing}
 use Rattle.cfdp_session.specs.declared.session.Session.{Session}
 use Rattle.cfdp_session.specs.Kept.{Last, is_put_off, timers_of}
+use Rattle.cfdp_session.specs.Plans.{PlanValue, and_setting, planned}
 use Rattle.cfdp_session.specs.Turning.{turned}
 use Rattle.entity_routing.specs.declared.world_event.WorldEvent.TheVariants as events
 use Rattle.timer_list.specs.declared.armed.Armed.{Armed}
@@ -49,9 +51,19 @@ pub record IsOpened (text : List ℕ) (session : Session) : Type 0 where
   pub messages : session.messages ≡ []
   pub turns : session.turns ≡ first_turns session.world.config
   pub timers : session.timers ≡ timing.begun
+  pub plan : session.plan ≡ Some (record { text = text; settings = [] })
+
+-- the entity is a new one, whose configuration is that of the plan with one more setting
+pub record IsSet (old : Session) (setting : Setting) (new : Session) : Type 0 where
+  pub plan : PlanValue
+  pub early : old.plan ≡ Some plan
+  pub config : planned (and_setting plan setting) ≡ Ok new.world.config
+  pub stands : StandsAfter new.world []
+  pub others : new ≡ record old { world = new.world; plan = Some (and_setting plan setting) }
 
 -- the entity handles an event, whatever its history, and the session keeps the result in place of the last one; the
--- timers before it are these, and what it leaves to do with them is still to be done, at the time that was told last
+-- timers before it are these, and what it leaves to do with them is still to be done, at the time that was told last. No
+-- setting may follow
 pub record IsTold (old : Session) (event : WorldEvent) (time : Option ℕ) (before : List Armed) (new : Session) : Type 0 where
   pub result : Result Done EntityRefusal
   pub kept : new.last ≡ Some result
@@ -65,7 +77,7 @@ pub record IsTold (old : Session) (event : WorldEvent) (time : Option ℕ) (befo
   pub waiting : timing.waiting new.timers ≡ before
   pub clock : new.timers.clock ≡ time
   pub left : new.timers.carried ≡ 0
-  pub others : new ≡ record old { world = new.world; last = Some result; turns = new.turns; timers = new.timers }
+  pub others : new ≡ record old { world = new.world; last = Some result; turns = new.turns; timers = new.timers; plan = None }
 
 -- the first timer that has expired is passed on, and the others stay
 pub record IsTicked (old : Session) (now : ℕ) (new : Session) : Type 0 where

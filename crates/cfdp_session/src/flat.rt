@@ -1,14 +1,14 @@
 //! Results as flat structs of numbers. What has a variable size is left out.
 ghost use Rattle.std.specs.Prelude.{◌≡◌, length};
 ghost use Rattle.cfdp_session.specs.Kept.{pdus_of};
-ghost use Rattle.cfdp_session.specs.Flat.{delivery_code, deposit_flag, fault_in, kind_code, phase_code, status_code};
+ghost use Rattle.cfdp_session.specs.Flat.{class_code, delivery_code, deposit_flag, fault_in, kind_code, phase_code, side_code, sized_file, status_code};
 
-use cfdp_types::{Condition, Delivery, Deposit, FileStatus, Image, TimerKind, TimerOp};
+use cfdp_types::{Class, Condition, Delivery, Deposit, FileStatus, Image, TimerKind, TimerOp};
 use entity_config::Remote;
 use entity_parts::EntityRefusal;
 use entity_routing::RouteRefusal;
-use indications::{Bundle, Indication, Phase};
-use lane_table::Done;
+use indications::{Bundle, Indication, Phase, Side};
+use lane_table::{Done, Glance, GlancedFile};
 
 /// The result of a step: how much of each kind it left, or why the event was refused.
 #[repr(C)]
@@ -69,6 +69,27 @@ pub struct FlatImage {
 pub struct FlatKey {
     pub source: u64,
     pub seq: u64,
+}
+
+/// A transaction that has begun and not ended, as its lane shows it.
+#[repr(C)]
+#[derive(Clone, Copy)]
+pub struct FlatTransaction {
+    pub source: u64,
+    pub seq: u64,
+    /// The entity at the other end.
+    pub peer: u64,
+    /// The octets in the file, 0 where they aren't known.
+    pub size: u64,
+    /// 1 where this entity sends the file, 0 where it receives it.
+    pub sends: u32,
+    pub class: u32,
+    pub phase: u32,
+    pub progress: u32,
+    /// 1 where the size is known: a receiver knows it once the Metadata has come.
+    pub sized: u32,
+    /// The number of events that it has accepted.
+    pub entries: u32,
 }
 
 /// A remote entity of the configuration.
@@ -334,6 +355,60 @@ impl FlatRemote {
                 None => usize::MAX,
             },
         }
+    }
+}
+
+impl FlatTransaction {
+    ghost use Rattle.std.specs.Prelude.{◌≡◌};
+    ghost use Rattle.cfdp_session.specs.Flat.{flat_transaction};
+
+    /// The numbers of a transaction.
+    pub fn of(glance: &Glance) -> FlatTransaction
+        ensures { result ≡ flat_transaction glance.now }
+    {
+        let (size, sized) = size_of(&glance.file);
+        FlatTransaction {
+            source: glance.key.source.0,
+            seq: glance.key.seq,
+            peer: glance.peer.0,
+            size,
+            sends: side_code(glance.end),
+            class: class_code(glance.class),
+            phase: phase_code(glance.phase),
+            progress: glance.progress,
+            sized,
+            entries: glance.entries,
+        }
+    }
+}
+
+// The octets of a file, and 1; 0 and 0 where they aren't known.
+fn size_of(file: &Option<GlancedFile>) -> (u64, u32)
+    ensures { result ≡ sized_file file.now }
+{
+    match file {
+        Some(file) => (file.size, 1),
+        None => (0, 0),
+    }
+}
+
+// 1 for a sender, 0 for a receiver.
+fn side_code(side: Side) -> u32
+    ensures { result ≡ side_code side }
+{
+    match side {
+        Side::Sender => 1,
+        Side::Receiver => 0,
+    }
+}
+
+// The number of a class.
+fn class_code(class: Class) -> u32
+    ensures { result ≡ class_code class }
+{
+    match class {
+        Class::One => 1,
+        Class::Two => 2,
     }
 }
 

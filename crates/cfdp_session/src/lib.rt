@@ -3,11 +3,14 @@
 
 mod flat;
 mod order;
+mod plan;
 mod session;
 mod turning;
 
 pub use flat::{
     FlatBundle, FlatDeposit, FlatDone, FlatImage, FlatIndication, FlatKey, FlatRemote, FlatTimer,
+    FlatTransaction,
 };
 pub use order::Order;
+pub use plan::{Plan, Unset};
 pub use session::{Session, Taking, Telling, Ticking};

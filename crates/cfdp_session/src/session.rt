@@ -1,19 +1,23 @@
 ghost use Rattle.std.specs.Prelude.{◌≡◌, ◌∷◌, IfOk, slice_get, option_map, option_copied};
 ghost use Rattle.pdu_values.specs.Spelling as spelling;
 ghost use Rattle.cfdp_session.specs.Kept.{addressed, is_put_off, timers_of};
+ghost use Rattle.cfdp_session.specs.Flat.{if_open};
 ghost use Rattle.cfdp_session.specs.Steps.{first_turns};
 
 use crate::flat::{
     FlatBundle, FlatDeposit, FlatDone, FlatImage, FlatIndication, FlatKey, FlatRemote, FlatTimer,
+    FlatTransaction,
 };
 use crate::order::Order;
+use crate::plan::{Plan, Unset};
 use crate::turning::note;
 use cfdp_types::limits::{MESSAGE_OCTETS, MESSAGES};
 use cfdp_types::{Image, Messages, Octets, PutFault, PutRequest, TimerOp, TxnKey};
-use entity_config::{Config, ConfigFault, read_config};
+use entity_config::{Config, ConfigFault, Setting, read_config};
+use entity_routing::lanes_of;
 use indications::{Bundle, Indication};
 use kept_timers::KeptTimers;
-use lane_table::{Done, Echo};
+use lane_table::{Done, Echo, Glance};
 use pdu_codec::{Pdu, encode};
 use pdu_values::{Direction, Header};
 use pump_turns::Turns;
@@ -72,6 +76,8 @@ pub struct Session {
     pub turns: Turns,
     /// The timers, if the caller tells the time.
     pub timers: KeptTimers,
+    /// Of what a setting makes the entity anew, until the first event.
+    pub plan: Option<Plan>,
 }
 
 impl Session {
@@ -82,10 +88,11 @@ impl Session {
     ghost use Rattle.world_table.specs.Histories.{Happening, held_for};
     ghost use Rattle.entity_parts.specs.FirstLanes.{first_lane};
     ghost use Rattle.world_core.specs.Worlds.{StandsAfter, MayCome};
-    ghost use Rattle.cfdp_session.specs.Flat.{flat_bundle, flat_deposit, flat_done, flat_indication, flat_own, flat_remote, flat_timer};
+    ghost use Rattle.cfdp_session.specs.Flat.{flat_bundle, flat_deposit, flat_done, flat_indication, flat_own, flat_remote, flat_timer, lanes_in, open_at};
     ghost use Rattle.cfdp_session.specs.Kept.{addressee, deposit_of, image_parts, indications_of, parts_at, pdus_of, timers_of};
     ghost use Rattle.cfdp_session.specs.Orders.{put_of};
-    ghost use Rattle.cfdp_session.specs.Steps.{IsLoaded, IsMissing, IsOpened, IsQuiet, IsTaken, IsTicked, IsTold, IsUnsettled, expiry, left_after, running_in};
+    ghost use Rattle.cfdp_session.specs.Plans.{IsUnset};
+    ghost use Rattle.cfdp_session.specs.Steps.{IsLoaded, IsMissing, IsOpened, IsQuiet, IsSet, IsTaken, IsTicked, IsTold, IsUnsettled, expiry, left_after, running_in};
     ghost use Rattle.kept_timers.specs.Running.{is_before, settled, waiting};
     ghost use Rattle.pump_turns.specs.Turns.{next};
 
@@ -108,7 +115,22 @@ impl Session {
             messages: Messages::new(alloc),
             turns,
             timers: KeptTimers::new(alloc),
+            plan: Some(Plan::new(alloc, text)?),
         })
+    }
+
+    /// Makes the entity anew, with all settings so far and this one. An error changes nothing.
+    pub fn set(&mut self, alloc: Global, setting: Setting) -> Result<(), Unset>
+        ensures set { OnOk result (IsSet self.old setting self.new) }
+        ensures refused { IfErr result (IsUnset self.old.plan setting) }
+        ensures same { OnErr result (self.new ≡ self.old) }
+    {
+        let Some(plan) = &mut self.plan else {
+            return Err(Unset::TooLate);
+        };
+        let world = plan.make_with(alloc, &setting)?;
+        self.world = world;
+        Ok(())
     }
 
     /// Passes an event to the entity and keeps the result. First it does what the event before left to do with timers;
@@ -145,6 +167,7 @@ impl Session {
         );
         self.last = Some(answer);
         self.timers.carried = 0;
+        self.plan = None;
     }
 
     /// Notes the time, and passes the first timer that has expired to the entity. If the entity refuses it for want of
@@ -208,6 +231,31 @@ impl Session {
         match self.world.config().remote_at(index) {
             Some(remote) => Some(FlatRemote::of(remote)),
             None => None,
+        }
+    }
+
+    /// The number of lanes of a user, if there is such a user.
+    pub fn lanes(&self, user: usize) -> Option<usize>
+        ensures { result ≡ lanes_in self.now.world.config user }
+    {
+        if user >= self.world.users() {
+            return None;
+        }
+        Some(lanes_of(self.world.config(), user))
+    }
+
+    /// The transaction that a lane of a user runs. None if it runs none, or there is no such lane. An error means that memory
+    /// ran out.
+    pub fn transaction(
+        &self,
+        user: usize,
+        lane: usize,
+    ) -> Result<Option<FlatTransaction>, AllocError>
+        ensures { IfOk result (λ found. found ≡ open_at self.now.world.posts user lane) }
+    {
+        match self.world.glance(user, lane)? {
+            Some(glance) => Ok(if_open(&glance)),
+            None => Ok(None),
         }
     }
 
@@ -425,6 +473,17 @@ fn turns_of(alloc: Global, config: &Config) -> Result<Turns, AllocError>
 {
     let entity = config.entity();
     Turns::new(alloc, config.users() * entity.put_lanes)
+}
+
+// The numbers of a transaction that has not ended.
+fn if_open(glance: &Glance) -> Option<FlatTransaction>
+    ensures { result ≡ if_open glance.now }
+{
+    if glance.has_ended {
+        None
+    } else {
+        Some(FlatTransaction::of(glance))
+    }
 }
 
 // What an event left to do with timers.

@@ -224,6 +224,7 @@ pub(crate) const LAYOUTS: [Layout; 12] = [
             TRANSACTION,
             Right("microseconds", &[Number(member::MICROSECONDS, "-")]),
             Left("at", &[Text(member::AT, "?")]),
+            Left("why not kept", &[SomeText("", member::WHY, "")]),
         ],
     },
 ];
@@ -238,12 +239,6 @@ pub(crate) const ENTITY: [Part; 8] = [
     Text(member::STARTED, "?"),
     Words(", now "),
     Text(member::NOW, "?"),
-];
-
-/// The line of its counter of ended reads, if workers stopped reading.
-pub(crate) const ENDED_READS: [Part; 2] = [
-    Words("Workers that stopped reading because their socket failed: "),
-    Number(member::ENDED_READS, "?"),
 ];
 
 /// The line of a log that fails.

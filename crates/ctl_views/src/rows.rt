@@ -1,7 +1,7 @@
 //! The lines of a status as rows of tables.
-use crate::columns::{Column, ENDED_READS, ENTITY, FAILING_LOG, LAYOUTS, Layout, NOTE, Rows};
+use crate::columns::{Column, ENTITY, FAILING_LOG, LAYOUTS, Layout, NOTE, Rows};
 use crate::ends::end_tone;
-use crate::fields::{is_set, moment_in, number_in, text_in};
+use crate::fields::{is_set, moment_in, text_in};
 use crate::page::Tone;
 use crate::parts::{Look, NO_LOOK, Part, push_parts};
 use crate::seen::{Seen, look_at};
@@ -61,23 +61,12 @@ pub(crate) fn push_record(
     next: &mut Seen,
 ) -> Result<(), AllocError> {
     match text_in(value, member::KIND) {
-        Some(kind::ENTITY) => push_entity(alloc, tables, value),
+        Some(kind::ENTITY) => push_head(alloc, tables, value, ENTITY.as_slice()),
         Some(kind::LOG) => push_log(alloc, tables, value),
         Some(kind::NOTE) => push_head(alloc, tables, value, NOTE.as_slice()),
         Some(kind::TRANSACTION) => push_transaction(alloc, tables, value, seen, next),
         Some(kind) => push_row(alloc, tables, Rows::Of(kind), value, NO_LOOK),
         None => Ok(()),
-    }
-}
-
-// Adds the entity's line above the tables, and how many workers stopped reading, if any did.
-fn push_entity(alloc: Global, tables: &mut Tables, value: &Value<'_>) -> Result<(), AllocError> {
-    push_head(alloc, tables, value, ENTITY.as_slice())?;
-    match value.get(member::COUNTERS) {
-        Some(counters) if number_in(counters, member::ENDED_READS) > Some(0) => {
-            push_head(alloc, tables, counters, ENDED_READS.as_slice())
-        }
-        _ => Ok(()),
     }
 }
 

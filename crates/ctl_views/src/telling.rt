@@ -81,7 +81,7 @@ fn event_tone(value: &Value<'_>) -> Tone {
     match name_of(value) {
         Some(kind::STORED) if text_in(value, member::STATUS) == Some("retained") => Tone::Plain,
         Some(kind::STORED | kind::UNSENT | kind::UNPARKED | kind::REFUSED) => Tone::Bad,
-        Some(kind::JOURNAL_FULL | kind::READS_ENDED) => Tone::Bad,
+        Some(kind::JOURNAL_FULL) => Tone::Bad,
         _ => Tone::Plain,
     }
 }

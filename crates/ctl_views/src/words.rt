@@ -53,7 +53,6 @@ pub(crate) fn event_words(name: &str) -> Option<&'static [Part]> {
         kind::SKIPPED => SKIPPED,
         kind::REFUSED => REFUSED,
         kind::JOURNAL_FULL => JOURNAL_FULL,
-        kind::READS_ENDED => READS_ENDED,
         _ => return None,
     };
     Some(parts)
@@ -78,7 +77,11 @@ const PUT: &[Part] = &[
     SomeNumber(", file ", member::QUEUED, " of the outbox"),
 ];
 
-const STORED: &[Part] = &[Words("file "), Text(member::STATUS, "?")];
+const STORED: &[Part] = &[
+    Words("file "),
+    Text(member::STATUS, "?"),
+    SomeText(": ", member::WHY, ""),
+];
 
 const UNSENT: &[Part] = &[
     Words("file "),
@@ -137,5 +140,3 @@ const REFUSED: &[Part] = &[
 ];
 
 const JOURNAL_FULL: &[Part] = &[Words("abandoned: its journal is full")];
-
-const READS_ENDED: &[Part] = &[Words("a worker stopped reading: its socket failed")];

@@ -62,7 +62,7 @@ module _ {T : Type 0} (s now : List Step) (result : Result T Fault) where
 -- a file under another name is there still
 pub named_still : {T : Type 0} (s now : List Step) (result : Result T Fault) (part name octets : List ℕ) → name ≢ part → IsNamed name octets s → now ≡ step_of result (remove part) ∷ s → IsNamed name octets now
 named_still s now (Ok x) part name octets apart named is = subst (IsNamed name octets) (sym is) (calls.named_still s part name octets apart named)
-named_still s now (Err Exists) part name octets apart named is = subst (IsNamed name octets) (sym is) (record { file = named.file; sole = named.sole; there = named.there })
+named_still s now (Err Exists) part name octets apart named is = subst (IsNamed name octets) (sym is) (record { file = named.file; sole = named.sole; there = named.there; sure = named.sure })
 named_still s now (Err MayPass) part name octets apart named is = subst (IsNamed name octets) (sym is) (calls.named_even s part name octets apart named)
 named_still s now (Err Failed) part name octets apart named is = subst (IsNamed name octets) (sym is) (calls.named_even s part name octets apart named)
 

@@ -211,6 +211,7 @@ module _ (s : List Step) where
         file = opened.file;
         sole = λ entry has. ⊎_elim (λ here. opened.sole entry here.1) (λ there. absurd (there.0 refl)) has;
         there = inl (refl, opened.there);
+        sure = λ doubted. doubted.1 refl;
       }
 
       pub named_by_link : IsNamed name octets (did (link part name) ∷ s)
@@ -218,6 +219,7 @@ module _ (s : List Step) where
         file = opened.file;
         sole = λ entry has. ⊎_elim (λ here. opened.sole entry here.1) (λ there. absurd (there.0 refl)) has;
         there = inl (refl, opened.there);
+        sure = λ doubted. doubted.0 refl;
       }
 
     pub removed : (IsNew : List ℕ → Option (List ℕ) → Type 0) → OldOrNew (Is part) IsNew s (did (remove part) ∷ s)
@@ -240,6 +242,7 @@ module _ (s : List Step) where
         file = named.file;
         sole = λ entry has. ⊎_elim (λ here. absurd (apart here.0)) (λ there. named.sole entry there.1) has;
         there = inr (apart, named.there);
+        sure = λ doubted. named.sure doubted.1;
       }
 
       pub named_even : IsNamed name octets (tried (remove part) ∷ s)
@@ -247,6 +250,7 @@ module _ (s : List Step) where
         file = named.file;
         sole = λ entry has. ⊎_elim (named.sole entry) (⊎_elim (λ here. absurd (apart here.0)) (λ there. named.sole entry there.1)) has;
         there = inl named.there;
+        sure = named.sure;
       }
 
   -- a copy that is taken back: nothing stands there
@@ -284,7 +288,7 @@ module _ (s : List Step) where
     pub holds : HoldsAfterCut done name octets
     holds = record {
       only = λ found may. ⊎_elim
-          (⊎_elim (λ has. whole found may.entry has may.leaves) (λ had. absurd (had.0 refl)))
+          (⊎_elim (λ has. whole found may.entry has may.leaves) (λ had. ⊎_elim (λ other. absurd (other refl)) (λ doubted. absurd (named.sure doubted)) had.0))
           (λ gone. absurd (gone.1 (λ end slash. inl (reached end slash))))
           may.named;
       there = record { entry = open_file; named = inl (inl named.there); leaves = subst (λ (c : Content). Leaves c open_file (Some octets)) (sym named.file) refl };

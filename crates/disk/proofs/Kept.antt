@@ -31,7 +31,7 @@ module _ (s : List Step) (part name : List ℕ) where
   by_store octets apart opened reached = record {
     file = opened.file;
     only = λ entry now. ⊎_elim
-        (⊎_elim (⊎_elim (λ here. opened.sole entry here.1) (λ there. absurd (there.0 refl))) (λ had. absurd (had.0 refl)))
+        (⊎_elim (⊎_elim (λ here. opened.sole entry here.1) (λ there. absurd (there.0 refl))) (λ had. ⊎_elim (λ other. absurd (other refl)) (λ doubted. absurd (doubted.1 refl)) had.0))
         (λ gone. absurd (gone.1 (λ end slash. inl (reached end slash))))
         now;
     there = inl (refl, opened.there);

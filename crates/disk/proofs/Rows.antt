@@ -1,11 +1,11 @@
 -- Worked rows: folders of paths, notes, faults, and what a power cut leaves of contents.
-use Rattle.std.proofs.Common.{◌≡◌, true, false, ℕ, List, [], ◌∷◌, map, Ok, Err, Some, None, pos, codes, refl}
+use Rattle.std.proofs.Common.{◌≡◌, inl, inr, ⊎_elim, true, false, ℕ, List, [], ◌∷◌, map, Ok, Err, Some, None, pos, codes, refl}
 use Rattle.std.specs.declared.io.ErrorKind.TheVariants.{AlreadyExists, NotFound, PermissionDenied, QuotaExceeded, ReadOnlyFilesystem, StorageFull, Uncategorized}
 use Rattle.disk.specs.declared.device.Fault.TheVariants.{Exists, MayPass, Failed}
 use Rattle.disk.specs.Steps.{Step, folder_of, looked_by, step_of}
 use Rattle.disk.specs.Steps.Call.{create, append, flush}
 use Rattle.disk.specs.Steps.Step.{did, tried, refused, saw_folder, cut}
-use Rattle.disk.specs.Crash.{LeavesBehind, state}
+use Rattle.disk.specs.Crash.{Holed, LeavesBehind, state}
 use Rattle.disk.specs.Crash.Content.{written, flushed, grown, worn, unknown}
 use Rattle.disk.specs.declared.faults.Hindrance.TheVariants.{NoFolder, NoSpace, InputOutput, TooManyFiles, Refuses}
 use Rattle.disk.specs.Faults.{fault_of, hindrance_of, words_of}
@@ -62,9 +62,23 @@ grows : map (λ steps. (state steps).file)
     ≡ grown (1 ∷ []) (2 ∷ 3 ∷ []) ∷ flushed (1 ∷ 2 ∷ []) ∷ worn (1 ∷ []) (2 ∷ []) ∷ worn (1 ∷ []) (2 ∷ []) ∷ unknown ∷ []
 grows = refl
 
--- a part of what stands behind is left, with zeros behind it
-leaves_part : LeavesBehind (1 ∷ []) (2 ∷ 3 ∷ []) (1 ∷ 2 ∷ 0 ∷ [])
-leaves_part = record { place = 1; zeros = 1; is = refl }
+-- a part of what stands behind is left; a later octet and not an earlier one; all of it, with zeros behind it
+leaves_part : LeavesBehind (1 ∷ []) (2 ∷ 3 ∷ []) (1 ∷ 2 ∷ [])
+leaves_part = record { tail = 2 ∷ []; is = refl; holed = (inl refl, tt) }
+
+leaves_hole : LeavesBehind (1 ∷ []) (2 ∷ 3 ∷ []) (1 ∷ 0 ∷ 3 ∷ [])
+leaves_hole = record { tail = 0 ∷ 3 ∷ []; is = refl; holed = (inr refl, (inl refl, tt)) }
+
+leaves_zeros : LeavesBehind (1 ∷ []) (2 ∷ 3 ∷ []) (1 ∷ 2 ∷ 3 ∷ 0 ∷ [])
+leaves_zeros = record { tail = 2 ∷ 3 ∷ 0 ∷ []; is = refl; holed = (inl refl, (inl refl, (refl, tt))) }
+
+-- no octet is left at another's place, and nothing of the flushed ones is lost
+not_moved : ¬ (LeavesBehind (1 ∷ []) (2 ∷ 3 ∷ []) (1 ∷ 3 ∷ []))
+not_moved left = moved left.tail left.is left.holed
+  where
+    moved : (tail : List ℕ) → 1 ∷ 3 ∷ [] ≡ 1 ∷ tail → Holed (2 ∷ 3 ∷ []) tail → ⊥
+    moved [] is holed = cc
+    moved (octet ∷ more) is holed = ⊎_elim (λ same. cc) (λ zero. cc) holed.0
 
 hinders : map (λ kind. hindrance_of kind (Some (pos 28))) (StorageFull ∷ NotFound ∷ PermissionDenied ∷ [])
     ≡ NoSpace ∷ NoFolder ∷ Refuses ∷ []

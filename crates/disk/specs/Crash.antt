@@ -1,6 +1,6 @@
 -- Meaning. What a power cut may leave of a disk, after steps, newest first.
 -- A cut within a call leaves what a cut before the call or after it may leave. No call removes a folder.
-use Rattle.std.specs.Prelude.{◌≡◌, ◌≢◌, ◌⊎◌, ℕ, true, List, [], ◌∷◌, ◌++◌, take, replicate, slice_index, Option, Some, None}
+use Rattle.std.specs.Prelude.{◌≡◌, ◌≢◌, ◌⊎◌, ℕ, true, List, [], ◌∷◌, ◌++◌, take, slice_index, Option, Some, None}
 use Rattle.disk.specs.Steps.{Call, Step, folder_of, is_slash}
 use Rattle.disk.specs.Steps.Call.{create, append, flush, rename, link, remove, make_folder, flush_folder}
 use Rattle.disk.specs.Steps.Step.{did, tried, refused, saw, saw_folder, cut}
@@ -96,10 +96,23 @@ either one other path entry = one path entry ⊎ other path entry
 abbrev pub none : Entries
 none path entry = ⊥
 
--- the earlier entries, of which a flush of a folder makes those in it forgotten
-abbrev pub remembered : Call → Entries → Entries
-remembered (flush_folder folder) entries path entry = (folder_of path ≢ folder) × entries path entry
-remembered _ entries path entry = entries path entry
+-- the paths of which a flush of their folder failed
+abbrev pub doubtful : Call → (List ℕ → Type 0) → List ℕ → Type 0
+doubtful (flush_folder folder) doubted path = doubted path ⊎ (folder_of path ≡ folder)
+doubtful _ doubted path = doubted path
+
+-- those of them that weren't named since
+abbrev pub unnamed : Call → (List ℕ → Type 0) → List ℕ → Type 0
+unnamed (create at) doubted path = (path ≢ at) × doubted path
+unnamed (rename from to) doubted path = (path ≢ from) × (path ≢ to) × doubted path
+unnamed (link from to) doubted path = (path ≢ to) × doubted path
+unnamed (remove at) doubted path = (path ≢ at) × doubted path
+unnamed _ doubted path = doubted path
+
+-- the earlier entries, of which a flush of a folder makes those in it forgotten, unless a flush failed since the path was named
+abbrev pub remembered : Call → (List ℕ → Type 0) → Entries → Entries
+remembered (flush_folder folder) doubted entries path entry = ((folder_of path ≢ folder) ⊎ doubted path) × entries path entry
+remembered _ doubted entries path entry = entries path entry
 
 -- the folders that are there after a call
 abbrev pub standing : Call → (List ℕ → Type 0) → List ℕ → Type 0
@@ -112,12 +125,14 @@ staying (flush_folder above) stands stay folder = stay folder ⊎ (stands folder
 staying _ stands stay folder = stay folder
 
 -- a disk, by what is known of it: the octets of the open file, the entries that each path may have, and those that it
--- had since its folder was flushed, any of which a power cut may bring back; the folders that are there, and those of
--- them that a power cut leaves
+-- had since its folder was flushed, any of which a power cut may bring back; the paths whose folder could not be flushed
+-- since they were named, of which a later flush is not believed; the folders that are there, and those of them that a
+-- power cut leaves
 pub record State : Type 1 where
   pub file : Content
   pub has : Entries
   pub had : Entries
+  pub doubted : List ℕ → Type 0
   pub stands : List ℕ → Type 0
   pub stays : List ℕ → Type 0
 
@@ -134,7 +149,8 @@ abbrev pub after_did : Call → State → State
 after_did call state = record {
   file = file_after call state.file;
   has = named_by call (met_by call state.file state.has);
-  had = remembered call (met_by call state.file (either state.has state.had));
+  had = remembered call state.doubted (met_by call state.file (either state.has state.had));
+  doubted = unnamed call state.doubted;
   stands = standing call state.stands;
   stays = staying call state.stands state.stays;
 }
@@ -147,11 +163,12 @@ after_tried call state =
       file = file_after_failed call state.file;
       has = either met (named_by call met);
       had = met_by call state.file (either state.has state.had);
+      doubted = doubtful call state.doubted;
     }
 
 -- after a power cut
 abbrev pub after_cut : State → State
-after_cut state = record state { file = unknown; has = shutting state.file (left state); had = none; stands = state.stays }
+after_cut state = record state { file = unknown; has = shutting state.file (left state); had = none; doubted = λ path. ⊥; stands = state.stays }
 
 -- after a step
 abbrev pub after : Step → State → State
@@ -164,18 +181,24 @@ after cut state = after_cut state
 
 -- at first anything may be there
 abbrev pub at_first : State
-at_first = record { file = unknown; has = λ path entry. Unit {0}; had = none; stands = λ folder. ⊥; stays = λ folder. ⊥ }
+at_first = record { file = unknown; has = λ path entry. Unit {0}; had = none; doubted = λ path. ⊥; stands = λ folder. ⊥; stays = λ folder. ⊥ }
 
 -- the disk after steps, newest first
 abbrev pub state : List Step → State
 state [] = at_first
 state (step ∷ earlier) = after step (state earlier)
 
--- of octets after flushed ones a power cut leaves those up to some place, and maybe zeros from there on
+-- octets up to some place, each of them itself or zero, and maybe zeros from there on
+abbrev pub Holed : List ℕ → List ℕ → Type 0
+Holed octets [] = Unit {0}
+Holed [] (found ∷ more) = (found ≡ 0) × Holed [] more
+Holed (octet ∷ octets) (found ∷ more) = ((found ≡ octet) ⊎ (found ≡ 0)) × Holed octets more
+
+-- of octets after flushed ones a power cut leaves each or a zero in its place, up to some place, and maybe zeros from there on
 pub record LeavesBehind (before behind found : List ℕ) : Type 0 where
-  pub place : ℕ
-  pub zeros : ℕ
-  pub is : found ≡ before ++ (take place behind ++ replicate zeros 0)
+  pub tail : List ℕ
+  pub is : found ≡ before ++ tail
+  pub holed : Holed behind tail
 
 -- what a power cut may leave of a file with this content
 abbrev pub LeavesOctets : Content → List ℕ → Type 0

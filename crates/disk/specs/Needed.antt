@@ -6,7 +6,7 @@ use Rattle.disk.specs.Steps.Step.{did, tried}
 use Rattle.disk.specs.Promise.{HoldsAfterCut}
 
 -- no flush; a flush before the octets; a flush that failed before; octets written in place; no flush of the folder,
--- one that failed, or one of another folder
+-- one that failed, or one after one that failed
 pub record EachIsNeeded (old : List Step) (part name octets : List ℕ) : Type 0 where
   pub flush_needed : ¬ (HoldsAfterCut (did (flush_folder (folder_of name)) ∷ did (rename part name) ∷ did (append octets) ∷ did (create part) ∷ old) name octets)
   pub flush_behind : ¬ (HoldsAfterCut (did (flush_folder (folder_of name)) ∷ did (rename part name) ∷ did (append octets) ∷ did flush ∷ did (create part) ∷ old) name octets)
@@ -14,6 +14,7 @@ pub record EachIsNeeded (old : List Step) (part name octets : List ℕ) : Type 0
   pub not_in_place : ¬ (HoldsAfterCut (did (append octets) ∷ did (create name) ∷ old) name octets)
   pub folder_flush_needed : name ≢ part → ¬ (HoldsAfterCut (did (rename part name) ∷ did flush ∷ did (append octets) ∷ did (create part) ∷ []) name octets)
   pub folder_flush_answered : name ≢ part → ¬ (HoldsAfterCut (tried (flush_folder (folder_of name)) ∷ did (rename part name) ∷ did flush ∷ did (append octets) ∷ did (create part) ∷ []) name octets)
+  pub failed_folder_flush_counts : name ≢ part → ¬ (HoldsAfterCut (did (flush_folder (folder_of name)) ∷ tried (flush_folder (folder_of name)) ∷ did (rename part name) ∷ did flush ∷ did (append octets) ∷ did (create part) ∷ []) name octets)
 
 -- a folder that was made is lost where only the folder itself was flushed, and not the one above it
 abbrev pub FolderAboveNeeded : List ℕ → Type 0

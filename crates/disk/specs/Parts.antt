@@ -12,11 +12,12 @@ pub record IsOpen (part : List ℕ) (content : Content) (steps : List Step) : Ty
   pub there : (state steps).has part open_file
   pub alone : (path : List ℕ) → path ≢ part → left (state steps) path open_file → ⊥
 
--- the open file has these octets, flushed, and a path stands for it
+-- the open file has these octets, flushed, and a path stands for it, whose folder can be flushed
 pub record IsNamed (name octets : List ℕ) (steps : List Step) : Type 0 where
   pub file : (state steps).file ≡ flushed octets
   pub sole : (entry : Entry) → (state steps).has name entry → entry ≡ open_file
   pub there : (state steps).has name open_file
+  pub sure : ¬ ((state steps).doubted name)
 
 -- the open file has this content, and is under this name alone, but for the part that it was, whatever a cut leaves
 pub record IsKept (part name : List ℕ) (content : Content) (steps : List Step) : Type 0 where

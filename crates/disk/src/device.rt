@@ -33,7 +33,8 @@ pub trait Disk {
     fn flush(&mut self) -> Result<(), Fault>
         ensures { done self.new ≡ step_of result flush ∷ done self.old };
 
-    /// Gives a file another path, and replaces the file there, if any.
+    /// Gives a file another path, and replaces the file there, if any. `from` is a file: no folder is renamed, and the
+    /// system refuses to replace a folder by a file.
     fn rename(&mut self, from: &str, to: &str) -> Result<(), Fault>
         ensures { done self.new ≡ step_of result (rename from.now to.now) ∷ done self.old };
 

@@ -41,6 +41,6 @@ events : map level_of (event.Start ∷ event.End ∷ event.Put ∷ event.Hold �
     ≡ Info ∷ Info ∷ Info ∷ Info ∷ Info ∷ Info ∷ Info ∷ Info ∷ []
 events = refl
 
-warnings : map level_of (event.Stored false ∷ event.Unsent ∷ event.Refused ∷ event.Unparked ∷ event.JournalFull ∷ event.ReadsEnded ∷ [])
-    ≡ Warning ∷ Warning ∷ Warning ∷ Warning ∷ Warning ∷ Warning ∷ []
+warnings : map level_of (event.Stored false ∷ event.Unsent ∷ event.Refused ∷ event.Unparked ∷ event.JournalFull ∷ [])
+    ≡ Warning ∷ Warning ∷ Warning ∷ Warning ∷ Warning ∷ []
 warnings = refl

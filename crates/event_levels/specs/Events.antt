@@ -51,5 +51,4 @@ level_of event.Unsent = Warning
 level_of event.Refused = Warning
 level_of event.Unparked = Warning
 level_of event.JournalFull = Warning
-level_of event.ReadsEnded = Warning
 level_of _ = Info

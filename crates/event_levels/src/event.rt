@@ -31,8 +31,6 @@ pub enum EventKind<'a> {
     Skipped,
     /// A transaction was abandoned because its journal is full.
     JournalFull,
-    /// A worker stopped reading.
-    ReadsEnded,
     /// A command was given.
     Command,
 }
@@ -52,11 +50,8 @@ impl EventKind<'_> {
             | EventKind::Release
             | EventKind::Skipped
             | EventKind::Command => Level::Info,
-            EventKind::Unsent
-            | EventKind::Refused
-            | EventKind::Unparked
-            | EventKind::JournalFull
-            | EventKind::ReadsEnded => Level::Warning,
+            EventKind::Unsent | EventKind::Refused | EventKind::Unparked | EventKind::JournalFull =>
+                Level::Warning,
         }
     }
 }

@@ -62,15 +62,21 @@ impl<D: Disk + Drop> Model for HeldOutbox<D> {
 }
 
 impl<D: Disk + Drop> HeldOutbox<D> {
-    /// Opens the file of this name in the disk's own folder, as `StoredOutbox` does.
-    pub fn open(disk: D, alloc: Global, path: String) -> Result<HeldOutbox<D>, HeldFault>
-        ensures opens { IfOk result (λ held. Opens (string_bytes path) (D.done disk) held.file) }
+    /// Opens the file of this name in the disk's own folder, as `StoredOutbox` does; with `mends` without the lines that
+    /// can't be parsed.
+    pub fn open(
+        disk: D,
+        alloc: Global,
+        path: String,
+        mends: bool,
+    ) -> Result<HeldOutbox<D>, HeldFault>
+        ensures opens { IfOk result (λ held. Opens mends (string_bytes path) (D.done disk) held.file) }
         ensures nothing { IfOk result (λ held. held.owed ≡ []) }
     {
         let Ok(owed) = Vec::with_capacity(alloc, MOST_FILES) else {
             return Err(HeldFault::NoMemory);
         };
-        match StoredOutbox::open(disk, alloc, path) {
+        match StoredOutbox::open(disk, alloc, path, mends) {
             Ok(stored) => Ok(HeldOutbox {
                 stored,
                 owed,
@@ -216,8 +222,10 @@ fn fault_of(why: StoredOutboxFault) -> HeldFault {
     match why {
         StoredOutboxFault::NoMemory => HeldFault::NoMemory,
         StoredOutboxFault::Over => HeldFault::Full,
-        StoredOutboxFault::Unreadable | StoredOutboxFault::Unwritable | StoredOutboxFault::NoLine =>
-            HeldFault::Disk,
+        StoredOutboxFault::Unreadable
+        | StoredOutboxFault::BadLine(_)
+        | StoredOutboxFault::Unwritable
+        | StoredOutboxFault::NoLine => HeldFault::Disk,
     }
 }
 

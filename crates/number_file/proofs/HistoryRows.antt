@@ -13,8 +13,8 @@ use Rattle.disk.proofs.Calls as calls
 use Rattle.disk.proofs.Moments.{of_unchanged, step, then}
 use Rattle.disk.proofs.Reach.{slash_within}
 use Rattle.number_file.specs.Files.{Lasts, Writes}
-use Rattle.number_file.specs.RoundLaws.{Happening, IsHistory, IsRising, MayHappen, ReadsTruly, Start, station}
-use Rattle.number_file.specs.RoundLaws.Happening.{opens, covers, puts, other_puts, stops_opening, stops_covering, cuts, goes_on}
+use Rattle.number_file.specs.RoundLaws.{AreNew, Happening, IsHistory, MayHappen, ReadsTruly, Start, station}
+use Rattle.number_file.specs.RoundLaws.Happening.{opens, covers, puts, stops_opening, stops_covering, cuts, goes_on}
 use Rattle.number_file.specs.Rounds.{begun, written as noted}
 use Rattle.number_file.specs.Texts.{beside, number_text}
 use Rattle.number_file.proofs.RoundFacts.{never_twice}
@@ -117,12 +117,12 @@ no_slash (suc end) slash = let within : suc end < length name = slash_within nam
 reached : (steps : List Step) → IsReached steps name
 reached steps end slash = absurd (no_slash end slash)
 
--- three lanes and a user, then two: three rounds are covered at once, then two
+-- four lanes, then three: three rounds are covered at once, then two
 abbrev one_start : Start
-one_start = record { first = 1; width = 4; block = 3; place = 3 }
+one_start = record { first = 1; width = 4; block = 3 }
 
 abbrev other_start : Start
-other_start = record { first = 1; width = 3; block = 2; place = 1 }
+other_start = record { first = 1; width = 3; block = 2 }
 
 abbrev opened : List Step
 opened = stored name 4 (saw name None ∷ [])
@@ -137,8 +137,8 @@ abbrev covered_again : List Step
 covered_again = stored name 24 opened_again
 
 abbrev history : List Happening
-history = puts ∷ covers covered_again (noted 8 (begun 1 16 3 2)) ∷ opens other_start opened_again (begun 1 16 3 2) ∷ cuts
-    ∷ puts ∷ covers covered (noted 4 (begun 1 0 4 3)) ∷ opens one_start opened (begun 1 0 4 3) ∷ []
+history = puts 0 ∷ puts 1 ∷ covers covered_again (noted 8 (begun 1 16 3 2)) ∷ opens other_start opened_again (begun 1 16 3 2) ∷ cuts
+    ∷ puts 3 ∷ covers covered (noted 4 (begun 1 0 4 3)) ∷ opens one_start opened (begun 1 0 4 3) ∷ []
 
 there : MayFind (cut ∷ covered) name (Some (number_text 16))
 there = cut_finds covered name (Some (number_text 16)) (lasts name 16 opened (reached (named name 16 opened))).there
@@ -155,7 +155,6 @@ begins = (
     lasts = lasts name 4 (saw name None ∷ []) (reached (named name 4 (saw name None ∷ [])));
   },
   (λ found later is. any_found name found),
-  omega arith,
 )
 
 -- what the second run reads
@@ -169,7 +168,7 @@ truly found later is =
     later (cut ∷ covered) is in
     subst (MayFind (cut ∷ covered) name) same there
 
-begins_again : MayHappen name (opens other_start opened_again (begun 1 16 3 2)) (record { steps = cut ∷ covered; run = None; gave = 7 ∷ [] })
+begins_again : MayHappen name (opens other_start opened_again (begun 1 16 3 2)) (record { steps = cut ∷ covered; run = None; runs = 1; gave = record { run = 1; place = 3; number = 7 } ∷ [] })
 begins_again = (
   record {
     number = 16;
@@ -181,23 +180,25 @@ begins_again = (
     lasts = lasts name 18 read_again (reached (named name 18 read_again));
   },
   truly,
-  omega arith,
 )
 
 happened : IsHistory name [] history
 happened = (
-  refl,
+  (refl, omega arith),
   (
-    (writes name 24 opened_again, inr (refl, lasts name 24 opened_again (reached (named name 24 opened_again)))),
+    (refl, omega arith),
     (
-      begins_again,
+      (writes name 24 opened_again, inr (refl, lasts name 24 opened_again (reached (named name 24 opened_again)))),
       (
-        tt,
+        begins_again,
         (
-          refl,
+          tt,
           (
-            (writes name 16 opened, inr (refl, lasts name 16 opened (reached (named name 16 opened)))),
-            (begins, tt),
+            (refl, omega arith),
+            (
+              (writes name 16 opened, inr (refl, lasts name 16 opened (reached (named name 16 opened)))),
+              (begins, tt),
+            ),
           ),
         ),
       ),
@@ -205,25 +206,26 @@ happened = (
   ),
 )
 
-gave : (station [] history).gave ≡ 19 ∷ 7 ∷ []
+gave : (station [] history).gave ≡ record { run = 2; place = 0; number = 18 } ∷ record { run = 2; place = 1; number = 19 } ∷ record { run = 1; place = 3; number = 7 } ∷ []
 gave = refl
 
-rises : IsRising (station [] history).gave
-rises = never_twice name [] history happened
+are_new : AreNew (station [] history).gave
+are_new = never_twice name [] history happened
 
 -- ---- what each happening does
 
--- another lane's Put, and one of this lane
-others : (station [] (puts ∷ other_puts 5 ∷ opens one_start [] (begun 5 0 4 3) ∷ [])).run ≡ Some (record { rounds = record { next = 6; covered = 5; width = 4; block = 3 }; lane = 6; place = 3 })
-others = refl
+-- two Puts of a lane, and one of another
+lanes_give : (station [] (puts 3 ∷ puts 1 ∷ puts 3 ∷ opens one_start [] (begun 5 0 4 3) ∷ [])).gave
+    ≡ record { run = 1; place = 3; number = 27 } ∷ record { run = 1; place = 1; number = 21 } ∷ record { run = 1; place = 3; number = 23 } ∷ []
+lanes_give = refl
 
 -- a program that stops leaves the steps up to then
-stopped : (station [] (stops_covering (cut ∷ []) (cut ∷ cut ∷ []) ∷ opens one_start [] (begun 5 0 4 3) ∷ [])) ≡ record { steps = cut ∷ []; run = None; gave = [] }
+stopped : (station [] (stops_covering (cut ∷ []) (cut ∷ cut ∷ []) ∷ opens one_start [] (begun 5 0 4 3) ∷ [])) ≡ record { steps = cut ∷ []; run = None; runs = 1; gave = [] }
 stopped = refl
 
-stopped_early : (station [] (stops_opening one_start (cut ∷ []) (cut ∷ cut ∷ []) ∷ [])) ≡ record { steps = cut ∷ []; run = None; gave = [] }
+stopped_early : (station [] (stops_opening one_start (cut ∷ []) (cut ∷ cut ∷ []) ∷ [])) ≡ record { steps = cut ∷ []; run = None; runs = 0; gave = [] }
 stopped_early = refl
 
 -- other things are done, and the power is cut
-went_on : (station [] (cuts ∷ goes_on (did flush ∷ []) ∷ opens one_start [] (begun 5 0 4 3) ∷ [])) ≡ record { steps = cut ∷ did flush ∷ []; run = None; gave = [] }
+went_on : (station [] (cuts ∷ goes_on (did flush ∷ []) ∷ opens one_start [] (begun 5 0 4 3) ∷ [])) ≡ record { steps = cut ∷ did flush ∷ []; run = None; runs = 1; gave = [] }
 went_on = refl

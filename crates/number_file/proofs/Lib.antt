@@ -3,3 +3,4 @@ pub mod TextRows
 pub mod RoundFacts
 pub mod RoundRows
 pub mod HistoryRows
+pub mod LaneFacts

@@ -1,6 +1,6 @@
--- A lane gives no number twice.
-use Rattle.std.proofs.Common.{◌≡◌, inl, inr, ⊎_elim, ℕ, ◌+◌, ◌*◌, ◌<◌, ◌≤◌, max, Bool, true, false, ◌&&◌, nat_lt, nat_le, if◌then◌else◌, List, [], ◌∷◌, ◌++◌, All, Option, Some, None, refl, sym, ◌∙◌, subst, ap, arith, append_assoc}
-use Rattle.std.proofs.lemmas.Bool.{leb-true, ltb-true, ltb-false, and_parts}
+-- No number is given twice.
+use Rattle.std.proofs.Common.{◌≡◌, ◌≢◌, ◌⊎◌, inl, inr, ⊎_elim, ℕ, ◌+◌, ◌*◌, ◌<◌, ◌≤◌, ◌==◌, max, Bool, true, false, ◌&&◌, nat_lt, nat_le, if◌then◌else◌, List, [], ◌∷◌, ◌++◌, All, Option, Some, None, refl, sym, ◌∙◌, subst, ap, arith, append_assoc}
+use Rattle.std.proofs.lemmas.Bool.{cases_lt, eq-eqb, eqb-false, eqb-true, leb-true, ltb-true, ltb-false, and_parts}
 use Rattle.std.proofs.lemmas.Grind.{div_ceil_times}
 use Rattle.std.proofs.lemmas.List.{append_cancel_right}
 use Rattle.std.proofs.lemmas.List.Elements.{All-nil, All-cons, All-weaker}
@@ -19,12 +19,15 @@ use Rattle.number_file.specs.declared.rounds.Rounds.{Rounds}
 use Rattle.number_file.specs.Rounds.{begun, cover_of, given, last_number, number_at, round_above}
 use Rattle.number_file.specs.Texts.{beside, number_found, number_text}
 use Rattle.number_file.specs.Files.{Covered, Covers, Lasts, Opens, OpensNot, Reads, Writes, covered_by}
-use Rattle.number_file.specs.RoundLaws.{Happening, Run, Start, Station, giving, putting, covering, next_number, station, InRun, IsCovering, IsHistory, IsMoment, IsOpening, IsRising, NeverTwice, ReadsTruly}
-use Rattle.number_file.specs.RoundLaws.Happening.{opens, covers, puts, other_puts, stops_opening, stops_covering, cuts, goes_on}
+use Rattle.number_file.specs.RoundLaws.{AreNew, Given, Happening, Run, Start, Station, noting, putting, covering, next_lanes, next_number, station, InRun, IsAfter, IsCovering, IsHistory, IsMoment, IsOpening, NeverTwice, ReadsTruly}
+use Rattle.number_file.specs.RoundLaws.Happening.{opens, covers, puts, stops_opening, stops_covering, cuts, goes_on}
 use Rattle.number_file.proofs.TextFacts.{apart, reads_back}
 
-all_below : (least most : ℕ) (numbers : List ℕ) → least ≤ most → All (λ one. one < least) numbers → All (λ one. one < most) numbers
-all_below least most numbers le all = All-weaker (λ one. one < least) (λ one. one < most) (λ one below. omega arith) numbers all
+abbrev Below : ℕ → Given → Type 0
+Below most one = one.number < most
+
+all_below : (least most : ℕ) (gave : List Given) → least ≤ most → All (Below least) gave → All (Below most) gave
+all_below least most gave le all = All-weaker (Below least) (Below most) (λ one below. omega (arith, le, below)) gave all
 
 -- ---- what is written covers the next round
 
@@ -170,75 +173,186 @@ opening path least before now at truly start (inr call) = failed path least befo
 
 -- ---- what holds at each moment
 
+-- a number of an earlier run
+abbrev IsPast : ℕ → Given → Type 0
+IsPast runs one = one.run ≤ runs
+
 -- between runs: what may be found says no number that was given, nor one below it
-pub record IsKept (path : List ℕ) (steps : List Step) (gave : List ℕ) : Type 0 where
+pub record IsKept (path : List ℕ) (steps : List Step) (runs : ℕ) (gave : List Given) : Type 0 where
   pub least : ℕ
   pub there : AtLeast path least steps
-  pub below : All (λ one. one < least) gave
+  pub below : All (Below least) gave
+  pub past : All (IsPast runs) gave
+
+-- a number that was given in this run: in a round that its lane has behind it
+pub record InThis (run : Run) (runs : ℕ) (one : Given) : Type 0 where
+  pub now : one.run ≡ runs
+  pub inside : one.place < max run.rounds.width 1
+  pub round : ℕ
+  pub number : one.number ≡ number_at round run.rounds + one.place
+  pub behind : round < run.lanes one.place
+
+-- a number that was given in an earlier run: below each lane's next one
+pub record InEarlier (run : Run) (runs : ℕ) (one : Given) : Type 0 where
+  pub ended : one.run < runs
+  pub below : (place : ℕ) → one.number < next_number place run
+
+abbrev IsBehind : Run → ℕ → Given → Type 0
+IsBehind run runs one = InEarlier run runs one ⊎ InThis run runs one
 
 -- in a run
-pub record IsFine (path : List ℕ) (steps : List Step) (gave : List ℕ) (run : Run) : Type 0 where
+pub record IsFine (path : List ℕ) (steps : List Step) (runs : ℕ) (gave : List Given) (run : Run) : Type 0 where
   pub there : AtLeast path (number_at run.rounds.covered run.rounds) steps
-  pub below : All (λ one. one < number_at run.rounds.covered run.rounds) gave
-  pub below_next : All (λ one. one < next_number run) gave
-  pub lane_known : run.lane ≤ run.rounds.next
+  pub below : All (Below (number_at run.rounds.covered run.rounds)) gave
+  pub behind : All (IsBehind run runs) gave
+  pub lanes_known : (place : ℕ) → run.lanes place ≤ run.rounds.next
   pub in_range : run.rounds.next < run.rounds.covered → run.rounds.covered ≤ last_number
-  pub inside : run.place < max run.rounds.width 1
 
-abbrev Known : List ℕ → List Step → List ℕ → Option Run → Type 0
-Known path steps gave None = IsKept path steps gave
-Known path steps gave (Some run) = IsFine path steps gave run
+abbrev Known : List ℕ → List Step → ℕ → List Given → Option Run → Type 0
+Known path steps runs gave None = IsKept path steps runs gave
+Known path steps runs gave (Some run) = IsFine path steps runs gave run
 
-kept_of : (path : List ℕ) (steps : List Step) (gave : List ℕ) (run : Option Run) → Known path steps gave run → IsKept path steps gave
-kept_of path steps gave None known = known
-kept_of path steps gave (Some run) known = record { least = number_at run.rounds.covered run.rounds; there = known.there; below = known.below }
+is_past : (run : Run) (runs : ℕ) (one : Given) → IsBehind run runs one → IsPast runs one
+is_past run runs one (inl earlier) = let before = earlier.ended in omega (arith, before)
+is_past run runs one (inr here) = let now = here.now in omega (arith, now)
 
-begins_fine : (path : List ℕ) (before now : List Step) (gave : List ℕ) (start : Start) (rounds : Rounds) → IsKept path before gave → Opens path start.first start.width start.block before now rounds
-    → ReadsTruly path before now → start.place < max start.width 1 → IsFine path now gave (record { rounds = rounds; lane = rounds.next; place = start.place })
-begins_fine path before now gave start rounds kept call truly inside =
+kept_of : (path : List ℕ) (steps : List Step) (runs : ℕ) (gave : List Given) (run : Option Run) → Known path steps runs gave run → IsKept path steps runs gave
+kept_of path steps runs gave None known = known
+kept_of path steps runs gave (Some run) known = record {
+  least = number_at run.rounds.covered run.rounds;
+  there = known.there;
+  below = known.below;
+  past = All-weaker (IsBehind run runs) (IsPast runs) (is_past run runs) gave known.behind;
+}
+
+begins_fine : (path : List ℕ) (before now : List Step) (runs : ℕ) (gave : List Given) (start : Start) (rounds : Rounds) → IsKept path before runs gave
+    → Opens path start.first start.width start.block before now rounds → ReadsTruly path before now → IsFine path now (runs + 1) gave (record { rounds = rounds; lanes = λ place. rounds.next })
+begins_fine path before now runs gave start rounds kept call truly =
     let le = (opened path kept.least before now kept.there truly start.first start.width start.block rounds call).0 in
     let same : rounds.covered ≡ rounds.next = ap (λ (r : Rounds). r.covered) call.begins ∙ sym (ap (λ (r : Rounds). r.next) call.begins) in
-    let wide : rounds.width ≡ start.width = ap (λ (r : Rounds). r.width) call.begins in
     let number : number_at rounds.next rounds ≡ number_at rounds.covered rounds = ap (λ n. number_at n rounds) (sym same) in record {
       there = subst (λ n. AtLeast path n now) number (lasting path (number_at rounds.next rounds) now call.fits call.lasts);
       below = all_below kept.least (number_at rounds.covered rounds) gave (omega (arith, le, number)) kept.below;
-      below_next = all_below kept.least (number_at rounds.next rounds + start.place) gave (omega (arith, le)) kept.below;
-      lane_known = omega arith;
+      behind = all_earlier le gave kept.below kept.past;
+      lanes_known = λ place. omega arith;
       in_range = λ below. omega (arith, same, below);
-      inside = subst (λ w. start.place < max w 1) (sym wide) inside;
     }
+  where
+    all_earlier : kept.least ≤ number_at rounds.next rounds → (some : List Given) → All (Below kept.least) some → All (IsPast runs) some
+        → All (IsBehind (record { rounds = rounds; lanes = λ place. rounds.next }) (runs + 1)) some
+    all_earlier le some below past k d inside =
+        let one_below = below k d inside in
+        let one_past = past k d inside in
+        inl (record { ended = omega (arith, one_past); below = λ place. omega (arith, le, one_below) })
 
 mul_next : (width lane : ℕ) → width * (lane + 1) ≡ width * lane + width
 mul_next width lane = omega arith
 
+-- two rounds have no number in common, nor has one round the same number at two places
+round_before : (width one other place next : ℕ) → one < other → place < width → width * one + place < width * other + next
+round_before width one other place next before inside =
+    let step = mul_next width one in
+    let whole : width * (one + 1) ≤ width * other = mul-le-mul_left width (omega (arith, before)) in
+    omega (arith, step, whole, inside)
+
+places_apart : (width one other place next : ℕ) → place < width → next < width → place ≢ next → width * one + place ≢ width * other + next
+places_apart width one other place next inside within apart same = ⊎_elim
+    (λ before. let less = round_before width one other place next before inside in omega (arith, less, same))
+    (λ not. ⊎_elim
+    (λ after. let less = round_before width other one next place after within in omega (arith, less, same))
+    (λ not_after. let equal : one ≡ other = omega (arith, not, not_after) in
+    let times : width * one ≡ width * other = ap (λ n. width * n) equal in
+    absurd (apart (omega (arith, times, same))))
+    (cases_lt other one))
+    (cases_lt one other)
+
+-- a lane gave its round
+lanes_grow : (place : ℕ) (lanes : ℕ → ℕ) (other : ℕ) → lanes other ≤ next_lanes place lanes other
+lanes_grow place lanes other = by (other == place) refl
+  where
+    by : (same : Bool) → (other == place) ≡ same → lanes other ≤ (if same then lanes place + 1 else lanes other)
+    by true is = let at : lanes other ≡ lanes place = ap lanes (eqb-true other place is) in omega (arith, at)
+    by false is = omega arith
+
+same_place : (n : ℕ) → (n == n) ≡ false → ⊥
+same_place n is = let yes = eq-eqb n n refl in let no : true ≡ false = sym yes ∙ is in cc
+
+own_lane : (place : ℕ) (lanes : ℕ → ℕ) → lanes place < next_lanes place lanes place
+own_lane place lanes = by (place == place) refl
+  where
+    by : (same : Bool) → (place == place) ≡ same → lanes place < (if same then lanes place + 1 else lanes place)
+    by true is = omega arith
+    by false is = absurd (same_place place is)
+
+lanes_within : (place most : ℕ) (lanes : ℕ → ℕ) → ((other : ℕ) → lanes other ≤ most) → (other : ℕ) → next_lanes place lanes other ≤ max most (lanes place + 1)
+lanes_within place most lanes known other = by (other == place)
+  where
+    by : (same : Bool) → (if same then lanes place + 1 else lanes other) ≤ max most (lanes place + 1)
+    by true = omega arith
+    by false = let one = known other in omega (arith, one)
+
+module _ (run : Run) (runs place : ℕ) (within : place < max run.rounds.width 1) where
+  abbrev given_now : Given
+  given_now = record { run = runs; place = place; number = next_number place run }
+
+  -- the number is no earlier one
+  is_after : (one : Given) → IsBehind run runs one → IsAfter given_now one
+  is_after one (inl earlier) = let below = earlier.below place in record {
+    apart = λ same. omega (arith, below, same);
+    above = λ _. below;
+  }
+  is_after one (inr here) = record { apart = apart; above = λ why. ⊎_elim (λ before. let at = here.now in absurd (omega (arith, before, at))) above why }
+    where
+      above : one.place ≡ place → one.number < next_number place run
+      above same =
+          let at : run.lanes one.place ≡ run.lanes place = ap run.lanes same in
+          let is = here.number in
+          let behind = here.behind in
+          let inside = here.inside in
+          let less = round_before (max run.rounds.width 1) here.round (run.lanes place) one.place place (omega (arith, behind, at)) inside in
+          omega (arith, less, is)
+
+      apart : one.number ≢ next_number place run
+      apart equal = by (one.place == place) refl
+        where
+          by : (same : Bool) → (one.place == place) ≡ same → ⊥
+          by true is = let less = above (eqb-true one.place place is) in omega (arith, less, equal)
+          by false is =
+              let number = here.number in
+              places_apart (max run.rounds.width 1) here.round (run.lanes place) one.place place here.inside within (eqb-false one.place place is) (sym number ∙ equal)
+
+  still_behind : (one : Given) → IsBehind run runs one → IsBehind (noting place run) runs one
+  still_behind one (inl earlier) = inl (record { ended = earlier.ended; below = below })
+    where
+      below : (other : ℕ) → one.number < next_number other (noting place run)
+      below other =
+          let less = earlier.below other in
+          let grow = lanes_grow place run.lanes other in
+          let times : max run.rounds.width 1 * run.lanes other ≤ max run.rounds.width 1 * next_lanes place run.lanes other = mul-le-mul_left (max run.rounds.width 1) grow in
+          omega (arith, less, times)
+  still_behind one (inr here) =
+      let grow = lanes_grow place run.lanes one.place in
+      let behind = here.behind in
+      inr (record { now = here.now; inside = here.inside; round = here.round; number = here.number; behind = omega (arith, grow, behind) })
+
+  now_behind : IsBehind (noting place run) runs given_now
+  now_behind = inr (record { now = refl; inside = within; round = run.lanes place; number = refl; behind = own_lane place run.lanes })
+
 -- what was given is covered
-puts_fine : (path : List ℕ) (steps : List Step) (gave : List ℕ) (run : Run) → IsFine path steps gave run → cover_of run.rounds ≡ cover.Covered
-    → IsFine path steps (next_number run ∷ gave) (record run { rounds = given run.lane run.rounds; lane = run.lane + 1 })
-puts_fine path steps gave run fine is =
+puts_fine : (path : List ℕ) (steps : List Step) (runs : ℕ) (gave : List Given) (run : Run) (place : ℕ) → IsFine path steps runs gave run → cover_of run.rounds ≡ cover.Covered
+    → place < max run.rounds.width 1 → IsFine path steps runs (record { run = runs; place = place; number = next_number place run } ∷ gave) (noting place run)
+puts_fine path steps runs gave run place fine is within =
     let more : run.rounds.next < run.rounds.covered = subst (λ choice. Fits choice run.rounds) is (fits run.rounds) in
     let near = fine.in_range more in
-    let known = fine.lane_known in
-    let inside = fine.inside in
-    let next = mul_next (max run.rounds.width 1) run.lane in
-    let whole : max run.rounds.width 1 * (run.lane + 1) ≤ max run.rounds.width 1 * run.rounds.covered = mul-le-mul_left (max run.rounds.width 1) (omega arith) in record {
+    let known = fine.lanes_known place in
+    let next = mul_next (max run.rounds.width 1) (run.lanes place) in
+    let whole : max run.rounds.width 1 * (run.lanes place + 1) ≤ max run.rounds.width 1 * run.rounds.covered = mul-le-mul_left (max run.rounds.width 1) (omega (arith, more, known)) in record {
       there = fine.there;
-      below = All-cons (λ one. one < number_at run.rounds.covered run.rounds) (next_number run) gave (omega arith) fine.below;
-      below_next = All-cons (λ one. one < number_at (run.lane + 1) run.rounds + run.place) (next_number run) gave (omega arith)
-          (all_below (next_number run) (number_at (run.lane + 1) run.rounds + run.place) gave (omega arith) fine.below_next);
-      lane_known = omega arith;
+      below = All-cons (Below (number_at run.rounds.covered run.rounds)) (record { run = runs; place = place; number = next_number place run }) gave (omega (arith, within, next, whole)) fine.below;
+      behind = All-cons (IsBehind (noting place run) runs) (record { run = runs; place = place; number = next_number place run }) gave (now_behind run runs place within)
+          (All-weaker (IsBehind run runs) (IsBehind (noting place run) runs) (still_behind run runs place within) gave fine.behind);
+      lanes_known = λ other. let one = lanes_within place run.rounds.next run.lanes fine.lanes_known other in omega (arith, one, known, more, near);
       in_range = λ below. near;
-      inside = inside;
-    }
-
-notes_fine : (path : List ℕ) (steps : List Step) (gave : List ℕ) (run : Run) (round : ℕ) → IsFine path steps gave run → IsFine path steps gave (record run { rounds = given round run.rounds })
-notes_fine path steps gave run round fine =
-    let known = fine.lane_known in record {
-      there = fine.there;
-      below = fine.below;
-      below_next = fine.below_next;
-      lane_known = omega arith;
-      in_range = λ below. fine.in_range (omega (arith, below));
-      inside = fine.inside;
     }
 
 -- a cover, at each moment
@@ -252,112 +366,114 @@ cover_keeps path before now rounds (cover.Write round) fit at writes =
 cover_keeps path before now rounds cover.Over fit at is = nothing path (number_at rounds.covered rounds) before now is at
 
 -- a cover that failed, and one that was answered
-module _ (path : List ℕ) (before now : List Step) (gave : List ℕ) (run : Run) (fine : IsFine path before gave run) where
-  same_fine : Covers (cover_of run.rounds) path run.rounds before now → IsFine path now gave run
+module _ (path : List ℕ) (before now : List Step) (runs : ℕ) (gave : List Given) (run : Run) (fine : IsFine path before runs gave run) where
+  same_fine : Covers (cover_of run.rounds) path run.rounds before now → IsFine path now runs gave run
   same_fine call = record {
     there = at_end (AtLeast path (number_at run.rounds.covered run.rounds)) before now (cover_keeps path before now run.rounds (cover_of run.rounds) (fits run.rounds) fine.there call);
     below = fine.below;
-    below_next = fine.below_next;
-    lane_known = fine.lane_known;
+    behind = fine.behind;
+    lanes_known = fine.lanes_known;
     in_range = fine.in_range;
-    inside = fine.inside;
   }
 
-  covered_fine : (choice : Cover) → Fits choice run.rounds → Covers choice path run.rounds before now → Covered choice path run.rounds now → IsFine path now gave run
-      → IsFine path now gave (record run { rounds = covered_by choice run.rounds })
+  covered_fine : (choice : Cover) → Fits choice run.rounds → Covers choice path run.rounds before now → Covered choice path run.rounds now → IsFine path now runs gave run
+      → IsFine path now runs gave (record run { rounds = covered_by choice run.rounds })
   covered_fine cover.Covered fit call lasts same = same
   covered_fine (cover.Write round) fit call lasts same =
       let far = fit.0 in let covered = fit.3 in
       let le : max run.rounds.width 1 * run.rounds.covered ≤ max run.rounds.width 1 * round = mul-le-mul_left (max run.rounds.width 1) (omega arith) in record {
         there = lasting path (number_at round run.rounds) now fit.2 lasts;
         below = all_below (number_at run.rounds.covered run.rounds) (number_at round run.rounds) gave le same.below;
-        below_next = same.below_next;
-        lane_known = same.lane_known;
+        behind = All-weaker (IsBehind run runs) (IsBehind (record run { rounds = covered_by (cover.Write round) run.rounds }) runs) (λ one is. again one is) gave same.behind;
+        lanes_known = same.lanes_known;
         in_range = λ below. fit.1;
-        inside = same.inside;
       }
+    where
+      again : (one : Given) → IsBehind run runs one → IsBehind (record run { rounds = covered_by (cover.Write round) run.rounds }) runs one
+      again one (inl earlier) = inl (record { ended = earlier.ended; below = earlier.below })
+      again one (inr here) = inr (record { now = here.now; inside = here.inside; round = here.round; number = here.number; behind = here.behind })
   covered_fine cover.Over fit call lasts same = absurd lasts
 
-  covers_fine : (rounds : Rounds) → IsCovering path run.rounds rounds before now → IsFine path now gave (record run { rounds = rounds })
+  covers_fine : (rounds : Rounds) → IsCovering path run.rounds rounds before now → IsFine path now runs gave (record run { rounds = rounds })
   covers_fine rounds call = ⊎_elim
-      (λ same. subst (λ (r : Rounds). IsFine path now gave (record run { rounds = r })) (sym same) (same_fine call.0))
-      (λ done. subst (λ (r : Rounds). IsFine path now gave (record run { rounds = r })) (sym done.0) (covered_fine (cover_of run.rounds) (fits run.rounds) call.0 done.1 (same_fine call.0)))
+      (λ same. subst (λ (r : Rounds). IsFine path now runs gave (record run { rounds = r })) (sym same) (same_fine call.0))
+      (λ done. subst (λ (r : Rounds). IsFine path now runs gave (record run { rounds = r })) (sym done.0) (covered_fine (cover_of run.rounds) (fits run.rounds) call.0 done.1 (same_fine call.0)))
       call.1
 
-fewer : (path : List ℕ) (before now : List Step) (gave : List ℕ) (run : Option Run) → ((found : Option (List ℕ)) → MayFind now path found → MayFind before path found)
-    → Known path before gave run → Known path now gave run
-fewer path before now gave None to known = record { least = known.least; there = λ found number may. known.there found number (to found may); below = known.below }
-fewer path before now gave (Some run) to known = record {
+fewer : (path : List ℕ) (before now : List Step) (runs : ℕ) (gave : List Given) (run : Option Run) → ((found : Option (List ℕ)) → MayFind now path found → MayFind before path found)
+    → Known path before runs gave run → Known path now runs gave run
+fewer path before now runs gave None to known = record { least = known.least; there = λ found number may. known.there found number (to found may); below = known.below; past = known.past }
+fewer path before now runs gave (Some run) to known = record {
   there = λ found number may. known.there found number (to found may);
   below = known.below;
-  below_next = known.below_next;
-  lane_known = known.lane_known;
+  behind = known.behind;
+  lanes_known = known.lanes_known;
   in_range = known.in_range;
-  inside = known.inside;
 }
 
-cut_kept : (path : List ℕ) (steps : List Step) (gave : List ℕ) → IsKept path steps gave → IsKept path (cut ∷ steps) gave
-cut_kept path steps gave kept = record {
+cut_kept : (path : List ℕ) (steps : List Step) (runs : ℕ) (gave : List Given) → IsKept path steps runs gave → IsKept path (cut ∷ steps) runs gave
+cut_kept path steps runs gave kept = record {
   least = kept.least;
   there = λ found number may. kept.there found number (⊎_elim (λ old. old) (λ new. absurd new) (cut_off steps path found (λ never. never) may));
   below = kept.below;
+  past = kept.past;
 }
 
 -- ---- any history
 
 module _ (path : List ℕ) (first : List Step) where
   abbrev Holds : Station → Type 0
-  Holds s = Known path s.steps s.gave s.run × IsRising s.gave
+  Holds s = Known path s.steps s.runs s.gave s.run × AreNew s.gave
 
-  putting_run : (s : Station) (run : Option Run) → InRun run (λ run. cover_of run.rounds ≡ cover.Covered) → Known path s.steps s.gave run → IsRising s.gave → Holds (putting run s)
-  putting_run s None may known rising = absurd may
-  putting_run s (Some run) may known rising = (puts_fine path s.steps s.gave run known may, (known.below_next, rising))
+  putting_run : (s : Station) (run : Option Run) (place : ℕ) → InRun run (λ run. (cover_of run.rounds ≡ cover.Covered) × (place < max run.rounds.width 1)) → Known path s.steps s.runs s.gave run
+      → AreNew s.gave → Holds (putting place run (record s { run = run }))
+  putting_run s None place may known new = absurd may
+  putting_run s (Some run) place may known new = (
+    puts_fine path s.steps s.runs s.gave run place known may.0 may.1,
+    (All-weaker (IsBehind run s.runs) (IsAfter (record { run = s.runs; place = place; number = next_number place run })) (is_after run s.runs place may.1) s.gave known.behind, new),
+  )
 
-  giving_run : (s : Station) (run : Option Run) (round : ℕ) → Known path s.steps s.gave run → Known path s.steps s.gave (giving round run)
-  giving_run s None round known = known
-  giving_run s (Some run) round known = notes_fine path s.steps s.gave run round known
-
-  covering_run : (s : Station) (run : Option Run) (now : List Step) (rounds : Rounds) → InRun run (λ run. IsCovering path run.rounds rounds s.steps now) → Known path s.steps s.gave run
-      → Known path now s.gave (covering rounds run)
+  covering_run : (s : Station) (run : Option Run) (now : List Step) (rounds : Rounds) → InRun run (λ run. IsCovering path run.rounds rounds s.steps now) → Known path s.steps s.runs s.gave run
+      → Known path now s.runs s.gave (covering rounds run)
   covering_run s None now rounds may known = absurd may
-  covering_run s (Some run) now rounds may known = covers_fine path s.steps now s.gave run known rounds may
+  covering_run s (Some run) now rounds may known = covers_fine path s.steps now s.runs s.gave run known rounds may
 
   stopping_run : (s : Station) (run : Option Run) (moment now : List Step) → InRun run (λ run. Covers (cover_of run.rounds) path run.rounds s.steps now) → IsMoment s.steps moment now
-      → Known path s.steps s.gave run → IsKept path moment s.gave
+      → Known path s.steps s.runs s.gave run → IsKept path moment s.runs s.gave
   stopping_run s None moment now may is known = absurd may
   stopping_run s (Some run) moment now may is known = record {
     least = number_at run.rounds.covered run.rounds;
     there = at_moment (AtLeast path (number_at run.rounds.covered run.rounds)) s.steps moment now (cover_keeps path s.steps now run.rounds (cover_of run.rounds) (fits run.rounds) known.there may) is;
     below = known.below;
+    past = All-weaker (IsBehind run s.runs) (IsPast s.runs) (is_past run s.runs) s.gave known.behind;
   }
 
   holds : (history : List Happening) → IsHistory path first history → Holds (station first history)
-  holds [] happened = (record { least = 0; there = λ found number may says. omega arith; below = All-nil (λ one. one < 0) }, tt)
+  holds [] happened = (record { least = 0; there = λ found number may says. omega arith; below = All-nil (Below 0); past = All-nil (IsPast 0) }, tt)
   holds (opens start now rounds ∷ earlier) happened =
       let s = station first earlier in let known = holds earlier happened.1 in
-      (begins_fine path s.steps now s.gave start rounds (kept_of path s.steps s.gave s.run known.0) happened.0.0 happened.0.1 happened.0.2, known.1)
+      (begins_fine path s.steps now s.runs s.gave start rounds (kept_of path s.steps s.runs s.gave s.run known.0) happened.0.0 happened.0.1, known.1)
   holds (covers now rounds ∷ earlier) happened =
       let s = station first earlier in let known = holds earlier happened.1 in (covering_run s s.run now rounds happened.0 known.0, known.1)
-  holds (puts ∷ earlier) happened =
-      let s = station first earlier in let known = holds earlier happened.1 in putting_run s s.run happened.0 known.0 known.1
-  holds (other_puts round ∷ earlier) happened =
-      let s = station first earlier in let known = holds earlier happened.1 in (giving_run s s.run round known.0, known.1)
+  holds (puts place ∷ earlier) happened =
+      let s = station first earlier in let known = holds earlier happened.1 in putting_run s s.run place happened.0 known.0 known.1
   holds (stops_opening start moment now ∷ earlier) happened =
       let s = station first earlier in let known = holds earlier happened.1 in
-      let kept = kept_of path s.steps s.gave s.run known.0 in (
+      let kept = kept_of path s.steps s.runs s.gave s.run known.0 in (
         record {
           least = kept.least;
           there = at_moment (AtLeast path kept.least) s.steps moment now (opening path kept.least s.steps now kept.there happened.0.1 start happened.0.0) happened.0.2;
           below = kept.below;
+          past = kept.past;
         },
         known.1,
       )
   holds (stops_covering moment now ∷ earlier) happened =
       let s = station first earlier in let known = holds earlier happened.1 in (stopping_run s s.run moment now happened.0.0 happened.0.1 known.0, known.1)
   holds (cuts ∷ earlier) happened =
-      let s = station first earlier in let known = holds earlier happened.1 in (cut_kept path s.steps s.gave (kept_of path s.steps s.gave s.run known.0), known.1)
+      let s = station first earlier in let known = holds earlier happened.1 in (cut_kept path s.steps s.runs s.gave (kept_of path s.steps s.runs s.gave s.run known.0), known.1)
   holds (goes_on now ∷ earlier) happened =
-      let s = station first earlier in let known = holds earlier happened.1 in (fewer path s.steps now s.gave s.run happened.0 known.0, known.1)
+      let s = station first earlier in let known = holds earlier happened.1 in (fewer path s.steps now s.runs s.gave s.run happened.0 known.0, known.1)
 
 pub never_twice : NeverTwice
 never_twice path first history happened = (holds path first history happened).1

@@ -2,3 +2,4 @@ pub mod Rounds
 pub mod Texts
 pub mod Files
 pub mod RoundLaws
+pub mod LanePlaces

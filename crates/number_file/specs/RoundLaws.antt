@@ -1,6 +1,6 @@
--- Meaning. How a file of numbers keeps a lane's numbers apart, whatever programs run, wherever they stop, and whenever the power
--- is cut.
-use Rattle.std.specs.Prelude.{◌≡◌, ◌⊎◌, ℕ, ◌+◌, ◌<◌, ◌≤◌, max, All, List, [], ◌∷◌, ◌++◌, Option, Some, None}
+-- Meaning. How a file of numbers keeps the numbers of all lanes apart, whatever programs run, wherever they stop, and whenever
+-- the power is cut.
+use Rattle.std.specs.Prelude.{◌≡◌, ◌≢◌, ◌⊎◌, ℕ, ◌+◌, ◌<◌, ◌==◌, if◌then◌else◌, max, All, List, [], ◌∷◌, ◌++◌, Option, Some, None}
 use Rattle.disk.specs.Steps.{Step}
 use Rattle.disk.specs.Steps.Step.{saw, cut}
 use Rattle.disk.specs.Crash.{MayFind}
@@ -10,55 +10,58 @@ use Rattle.number_file.specs.declared.rounds.Rounds.{Rounds}
 use Rattle.number_file.specs.Rounds.{cover_of, given, number_at}
 use Rattle.number_file.specs.Files.{Covered, Covers, Opens, OpensNot, covered_by}
 
--- how a program starts: its first round, the width of a round, how many rounds are covered at once, and the place of the
--- lane's number in a round
+-- how a program starts: its first round, the width of a round, and how many rounds are covered at once
 pub record Start : Type 0 where
   pub first : ℕ
   pub width : ℕ
   pub block : ℕ
-  pub place : ℕ
 
--- a program that runs: its rounds, the round that the lane gives next, and the place of the lane's number in a round
+-- a program that runs: its rounds, and the round that each lane gives next, by the place of the lane's number in a round
 pub record Run : Type 0 where
   pub rounds : Rounds
-  pub lane : ℕ
-  pub place : ℕ
+  pub lanes : ℕ → ℕ
 
--- what happens: a program opens the file; it covers the next Put's round, or fails to; the lane puts; another lane gives a
--- round to a Put; the program stops at a moment of an open, or of a cover; the power is cut; the disk goes on with other things
+-- a number that was given: in which run, at which place of a round, and the number
+pub record Given : Type 0 where
+  pub run : ℕ
+  pub place : ℕ
+  pub number : ℕ
+
+-- what happens: a program opens the file; it covers the next Put's round, or fails to; the lane at a place puts; the program
+-- stops at a moment of an open, or of a cover; the power is cut; the disk goes on with other things
 pub data Happening : Type 0 where
   opens : Start → List Step → Rounds → Happening
   covers : List Step → Rounds → Happening
-  puts : Happening
-  other_puts : ℕ → Happening
+  puts : ℕ → Happening
   stops_opening : Start → List Step → List Step → Happening
   stops_covering : List Step → List Step → Happening
   cuts : Happening
   goes_on : List Step → Happening
 
--- the steps of the disk, the program, if one runs, and the numbers that the lane gave, newest first
+-- the steps of the disk, the program, if one runs, how many have run, and the numbers that lanes gave, newest first
 pub record Station : Type 0 where
   pub steps : List Step
   pub run : Option Run
-  pub gave : List ℕ
+  pub runs : ℕ
+  pub gave : List Given
 
--- the lane's next number
-abbrev pub next_number : Run → ℕ
-next_number run = number_at run.lane run.rounds + run.place
+-- the next number of the lane at a place
+abbrev pub next_number : ℕ → Run → ℕ
+next_number place run = number_at (run.lanes place) run.rounds + place
 
--- the program once a lane gave a round
+-- each lane's next round, once the one at a place gave its own
+abbrev pub next_lanes : ℕ → (ℕ → ℕ) → ℕ → ℕ
+next_lanes place lanes other = if other == place then lanes place + 1 else lanes other
+
+-- the program once the lane at a place gave its round
 abbrev pub noting : ℕ → Run → Run
-noting round run = record run { rounds = given round run.rounds }
+noting place run = record { rounds = given (run.lanes place) run.rounds; lanes = next_lanes place run.lanes }
 
--- the lane puts
-abbrev pub putting : Option Run → Station → Station
-putting None station = station
-putting (Some run) station = record station { run = Some (record (noting run.lane run) { lane = run.lane + 1 }); gave = next_number run ∷ station.gave }
-
--- another lane puts
-abbrev pub giving : ℕ → Option Run → Option Run
-giving round None = None
-giving round (Some run) = Some (noting round run)
+-- the lane at a place puts
+abbrev pub putting : ℕ → Option Run → Station → Station
+putting place None station = station
+putting place (Some run) station =
+    record station { run = Some (noting place run); gave = record { run = station.runs; place = place; number = next_number place run } ∷ station.gave }
 
 -- the program has these rounds
 abbrev pub covering : Rounds → Option Run → Option Run
@@ -67,10 +70,9 @@ covering rounds (Some run) = Some (record run { rounds = rounds })
 
 -- the station after something happened
 abbrev pub after : Happening → Station → Station
-after (opens start now rounds) station = record station { steps = now; run = Some (record { rounds = rounds; lane = rounds.next; place = start.place }) }
+after (opens start now rounds) station = record station { steps = now; run = Some (record { rounds = rounds; lanes = λ place. rounds.next }); runs = station.runs + 1 }
 after (covers now rounds) station = record station { steps = now; run = covering rounds station.run }
-after puts station = putting station.run station
-after (other_puts round) station = record station { run = giving round station.run }
+after (puts place) station = putting place station.run station
 after (stops_opening start moment now) station = record station { steps = moment; run = None }
 after (stops_covering moment now) station = record station { steps = moment; run = None }
 after cuts station = record station { steps = cut ∷ station.steps; run = None }
@@ -105,10 +107,9 @@ InRun (Some run) P = P run
 -- each call keeps its promise; reads are true; a round is given once it is covered
 abbrev pub MayHappen : List ℕ → Happening → Station → Type 0
 MayHappen path (opens start now rounds) station =
-    Opens path start.first start.width start.block station.steps now rounds × ReadsTruly path station.steps now × (start.place < max start.width 1)
+    Opens path start.first start.width start.block station.steps now rounds × ReadsTruly path station.steps now
 MayHappen path (covers now rounds) station = InRun station.run (λ run. IsCovering path run.rounds rounds station.steps now)
-MayHappen path puts station = InRun station.run (λ run. cover_of run.rounds ≡ cover.Covered)
-MayHappen path (other_puts round) station = InRun station.run (λ run. (cover_of run.rounds ≡ cover.Covered) × (round ≤ run.rounds.next))
+MayHappen path (puts place) station = InRun station.run (λ run. (cover_of run.rounds ≡ cover.Covered) × (place < max run.rounds.width 1))
 MayHappen path (stops_opening start moment now) station =
     IsOpening path start station.steps now × ReadsTruly path station.steps now × IsMoment station.steps moment now
 MayHappen path (stops_covering moment now) station =
@@ -118,7 +119,7 @@ MayHappen path (goes_on now) station = (found : Option (List ℕ)) → MayFind n
 
 -- the station after all that happened, newest first; at first nothing was given
 abbrev pub station : List Step → List Happening → Station
-station first [] = record { steps = first; run = None; gave = [] }
+station first [] = record { steps = first; run = None; runs = 0; gave = [] }
 station first (happening ∷ earlier) = after happening (station first earlier)
 
 -- each might happen
@@ -126,12 +127,18 @@ abbrev pub IsHistory : List ℕ → List Step → List Happening → Type 0
 IsHistory path first [] = Unit {0}
 IsHistory path first (happening ∷ earlier) = MayHappen path happening (station first earlier) × IsHistory path first earlier
 
--- each number is above all that were given before it
-abbrev pub IsRising : List ℕ → Type 0
-IsRising [] = Unit {0}
-IsRising (number ∷ earlier) = All (λ one. one < number) earlier × IsRising earlier
+-- a number isn't an earlier one, and is above it if it is of an earlier run or of the same lane
+pub record IsAfter (now earlier : Given) : Type 0 where
+  pub apart : earlier.number ≢ now.number
+  pub above : (earlier.run < now.run) ⊎ (earlier.place ≡ now.place) → earlier.number < now.number
+
+-- each is, of all that were given before it
+abbrev pub AreNew : List Given → Type 0
+AreNew [] = Unit {0}
+AreNew (now ∷ earlier) = All (IsAfter now) earlier × AreNew earlier
 
 -- Whatever may be on the disk at first: in any history, also where the numbers of lanes and users change from one start to
--- the next, each number that a lane gives is above all that were given at its place before, in this run and in earlier ones.
+-- the next, no lane gives a number that any lane gave before, in this run or in an earlier one; and numbers rise from run to run,
+-- and in a run lane by lane.
 abbrev pub NeverTwice : Type 0
-NeverTwice = (path : List ℕ) (first : List Step) (history : List Happening) → IsHistory path first history → IsRising (station first history).gave
+NeverTwice = (path : List ℕ) (first : List Step) (history : List Happening) → IsHistory path first history → AreNew (station first history).gave

@@ -7,5 +7,5 @@ mod rounds;
 mod texts;
 
 pub use file::{NumberFile, NumbersFault};
-pub use laws::numbers;
+pub use laws::{lanes_are_placed, numbers};
 pub use rounds::{Cover, LAST_NUMBER, Rounds};

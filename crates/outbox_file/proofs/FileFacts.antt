@@ -6,7 +6,7 @@ use Rattle.std.proofs.lemmas.Slice.Eq.{bytes_eq-Decides}
 use Rattle.disk.specs.declared.device.Fault.{Fault}
 use Rattle.disk.specs.Steps.{Call, Step, step_of}
 use Rattle.disk.specs.Steps.Call.{append, flush}
-use Rattle.disk.specs.Steps.Step.{did, tried}
+use Rattle.disk.specs.Steps.Step.{did, saw, tried}
 use Rattle.disk.specs.Crash.{Content, Entry, Leaves, LeavesBehind, LeavesOctets, MayFind, left, state}
 use Rattle.disk.specs.Crash.Content.{flushed, grown, worn}
 use Rattle.disk.specs.Crash.Entry.{open_file}
@@ -19,7 +19,7 @@ use Rattle.disk.proofs.Answered as answered
 use Rattle.disk.proofs.Kept as kept
 use Rattle.outbox_file.specs.declared.lines.Line.{Line}
 use Rattle.outbox_file.specs.Books.{BookValue, after, empty}
-use Rattle.outbox_file.specs.Files.{FileValue, Holds, IsPlainBook, IsStored, Notes, Opens, Reads, SaysEither, beside, found_book}
+use Rattle.outbox_file.specs.Files.{Holds, IsMended, IsPlainBook, IsStored, Notes, Reads, SaysEither, beside, found_book}
 use Rattle.outbox_file.specs.Texts.{IsPlain, book_in, book_text, line_text, reading_of, Reading}
 use Rattle.outbox_file.proofs.ReadFacts.{after_plain, book_plain, book_read, empty_plain, part_says, says, text_then_line}
 
@@ -167,9 +167,12 @@ module _ (path at : List ℕ) (old kept new : BookValue) (line : Line) (same : k
 -- ---- a file is opened
 
 -- what was found is plain
-pub found_plain : (found : Option (List ℕ)) (book : BookValue) → found_book found ≡ Some book → IsPlainBook book
+found_plain : (found : Option (List ℕ)) (book : BookValue) → found_book found ≡ Some book → IsPlainBook book
 found_plain None book is = let same : empty ≡ book = cc in subst IsPlainBook same empty_plain
-found_plain (Some text) book is = book_plain text book is
+found_plain (Some text) book is = book_plain false text book is
+
+pub reads_plain : (mends : Bool) (path : List ℕ) (book : BookValue) (before now : List Step) → Reads mends path book before now → IsPlainBook book
+reads_plain mends path book before now reads = ⊎_elim (λ plainly. found_plain reads.found book plainly.0) (λ mended. book_plain true mended.text book mended.said) reads.said
 
 -- its book was written as a whole
 module _ (path at text : List ℕ) (book : BookValue) (here : at ≡ path) (is : text ≡ book_text book) (plain : IsPlainBook book) (before now : List Step) where
@@ -182,12 +185,13 @@ module _ (path at text : List ℕ) (book : BookValue) (here : at ≡ path) (is :
   pub opened_notes : Changes (Is (beside at)) (Whole at text) before now → Notes path book book before now
   opened_notes changes = subst (λ (l : List ℕ). Notes l book book before now) here (replaces at text book book before now said_by_text changes)
 
-pub opens : (path : List ℕ) (file : FileValue) (before read : List Step) → Reads path file.book before read → Notes path file.book file.book read file.done → IsStored path file.book file.done → file.path ≡ path
-    → Opens path before file
-opens path file before read reads notes_now stored is_path = record {
-  found = reads.found;
-  said = reads.said;
-  notes = subst (λ (l : List Step). Notes path file.book file.book l file.done) reads.steps notes_now;
-  holds = holds path file.book file.done stored;
-  is_path = is_path;
+-- a text was read that says this by itself
+pub read_says : (mends : Bool) (path text : List ℕ) (book : BookValue) (before now : List Step) → book_in text ≡ Some book → now ≡ saw path (Some text) ∷ before → Reads mends path book before now
+read_says mends path text book before now is steps = record { found = Some text; said = inl (is, steps) }
+
+-- a text that says nothing by itself was kept aside, and says this without its bad lines
+pub mended : (mends : Bool) (path text : List ℕ) (book : BookValue) (before read now : List Step) → read ≡ saw path (Some text) ∷ before → IsMended mends path (Some text) book read now → Reads mends path book before now
+mended mends path text book before read now is mended_it = record {
+  found = Some text;
+  said = inr (subst (λ (l : List Step). IsMended mends path (Some text) book l now) is mended_it);
 }

@@ -6,55 +6,91 @@ use Rattle.std.proofs.lemmas.List.{append-nil, map-append, take-append-drop, tak
 use Rattle.std.proofs.lemmas.List.Sums.{fold-append, fold_push}
 use Rattle.outbox_file.specs.declared.book.Entry.{Entry}
 use Rattle.outbox_file.specs.declared.lines.Line.{Line}
+use Rattle.outbox_file.specs.declared.reading.BadLine.{BadLine}
 use Rattle.outbox_file.specs.declared.lines.Line.TheVariants.{Next, Queued, Began}
 use Rattle.outbox_file.specs.Books.{BookValue, after}
-use Rattle.outbox_file.specs.Texts.{Reading, book_in, line_in, line_text, noted, queued_text, read_on, reading_of, text_of, unread}
+use Rattle.outbox_file.specs.Texts.{Looking, Reading, bad_line_in, book_by, first_bad, is_whole, line_in, line_text, look_on, noted, queued_text, read_on, reading_by, said, text_of, unlooked, unread}
 
-none_noted : (said : Option Line) → noted said None ≡ None
-none_noted None = refl
-none_noted (Some said) = refl
+none_said : (mends : Bool) (line : Option Line) → said mends line None ≡ None
+none_said true None = refl
+none_said false None = refl
+none_said mends (Some line) = refl
+
+none_noted : (mends : Bool) (line : List ℕ) → noted mends line None ≡ None
+none_noted mends line = by (is_whole line)
+  where
+    by : (whole : Bool) → (if whole then said mends (line_in line) None else None) ≡ None
+    by true = none_said mends (line_in line)
+    by false = refl
 
 -- a text with a bad line says nothing, whatever stands behind it
-none_stays : (octets line : List ℕ) → (fold read_on (record { book = None; line = line }) octets).book ≡ None
-none_stays [] line = refl
-none_stays (octet ∷ octets) line = by (octet == 10) (λ (l : List ℕ). none_stays octets l)
+none_stays : (mends : Bool) (octets line : List ℕ) → (fold (read_on mends) (record { book = None; line = line }) octets).book ≡ None
+none_stays mends [] line = refl
+none_stays mends (octet ∷ octets) line = by (octet == 10) (λ (l : List ℕ). none_stays mends octets l)
   where
-    by : (ends : Bool) → ((l : List ℕ) → (fold read_on (record { book = None; line = l }) octets).book ≡ None)
-        → (fold read_on (if ends then record { book = noted (line_in line) None; line = [] } else record { book = None; line = line ++ octet ∷ [] }) octets).book ≡ None
-    by true stays = ap (λ (b : Option BookValue). (fold read_on (record { book = b; line = [] }) octets).book) (none_noted (line_in line)) ∙ stays []
+    by : (ends : Bool) → ((l : List ℕ) → (fold (read_on mends) (record { book = None; line = l }) octets).book ≡ None)
+        → (fold (read_on mends) (if ends then record { book = noted mends line None; line = [] } else record { book = None; line = line ++ octet ∷ [] }) octets).book ≡ None
+    by true stays = ap (λ (b : Option BookValue). (fold (read_on mends) (record { book = b; line = [] }) octets).book) (none_noted mends line) ∙ stays []
     by false stays = stays (line ++ octet ∷ [])
 
 -- what was read so far
 abbrev pub so_far : BookValue → List ℕ → Reading
 so_far book line = record { book = Some book; line = line }
 
-read_more : (text : List ℕ) (i : ℕ) → i < length text → reading_of (take (i + 1) text) ≡ read_on (reading_of (take i text)) (get_or text i 0)
-read_more text i below = ap reading_of (take_more text i 0 below) ∙ fold_push read_on unread (take i text) (get_or text i 0)
-
-module _ (text : List ℕ) (i : ℕ) (below : i < length text) (book : BookValue) (line : List ℕ) (is : reading_of (take i text) ≡ so_far book line) where
-  at_octet : (octet : ℕ) → get_or text i 0 ≡ octet → reading_of (take (i + 1) text) ≡ read_on (so_far book line) octet
-  at_octet octet here = read_more text i below ∙ ap (λ (r : Reading). read_on r (get_or text i 0)) is ∙ ap (λ (o : ℕ). read_on (so_far book line) o) here
+module _ (mends : Bool) (text : List ℕ) (i : ℕ) (below : i < length text) (book : BookValue) (line : List ℕ) (is : reading_by mends (take i text) ≡ so_far book line) where
+  at_octet : (octet : ℕ) → get_or text i 0 ≡ octet → reading_by mends (take (i + 1) text) ≡ read_on mends (so_far book line) octet
+  at_octet octet here =
+      ap (reading_by mends) (take_more text i 0 below)
+      ∙ fold_push (read_on mends) unread (take i text) (get_or text i 0)
+      ∙ ap (λ (r : Reading). read_on mends r (get_or text i 0)) is
+      ∙ ap (λ (o : ℕ). read_on mends (so_far book line) o) here
 
   -- a line ends
-  pub line_ends : (said : Line) → get_or text i 0 ≡ 10 → line_in line ≡ Some said → reading_of (take (i + 1) text) ≡ so_far (after said book) []
-  line_ends said ends says = at_octet 10 ends ∙ ap (λ (l : Option Line). record { book = noted l (Some book); line = [] }) says
+  pub line_ends : (next : BookValue) → get_or text i 0 ≡ 10 → noted mends line (Some book) ≡ Some next → reading_by mends (take (i + 1) text) ≡ so_far next []
+  line_ends next ends says = at_octet 10 ends ∙ ap (λ (b : Option BookValue). record { book = b; line = [] }) says
 
   -- a line goes on
-  pub line_goes_on : (octet : ℕ) → get_or text i 0 ≡ octet → octet ≢ 10 → reading_of (take (i + 1) text) ≡ so_far book (line ++ octet ∷ [])
+  pub line_goes_on : (octet : ℕ) → get_or text i 0 ≡ octet → octet ≢ 10 → reading_by mends (take (i + 1) text) ≡ so_far book (line ++ octet ∷ [])
   line_goes_on octet here more = at_octet octet here
-      ∙ ap (λ (b : Bool). if b then record { book = noted (line_in line) (Some book); line = [] } else so_far book (line ++ octet ∷ [])) (ne_eqb octet 10 more)
+      ∙ ap (λ (b : Bool). if b then record { book = noted mends line (Some book); line = [] } else so_far book (line ++ octet ∷ [])) (ne_eqb octet 10 more)
 
   -- a line says nothing, so the text doesn't
-  pub bad_line : get_or text i 0 ≡ 10 → line_in line ≡ None → None ≡ book_in text
+  pub bad_line : get_or text i 0 ≡ 10 → noted mends line (Some book) ≡ None → None ≡ book_by mends text
   bad_line ends nothing = sym
-      (ap book_in (sym (take-append-drop (i + 1) text))
-      ∙ ap (λ (r : Reading). r.book) (fold-append read_on unread (take (i + 1) text) (drop (i + 1) text))
-      ∙ ap (λ (r : Reading). (fold read_on r (drop (i + 1) text)).book) (at_octet 10 ends ∙ ap (λ (l : Option Line). record { book = noted l (Some book); line = [] }) nothing)
-      ∙ none_stays (drop (i + 1) text) [])
+      (ap (book_by mends) (sym (take-append-drop (i + 1) text))
+      ∙ ap (λ (r : Reading). r.book) (fold-append (read_on mends) unread (take (i + 1) text) (drop (i + 1) text))
+      ∙ ap (λ (r : Reading). (fold (read_on mends) r (drop (i + 1) text)).book) (at_octet 10 ends ∙ ap (λ (b : Option BookValue). record { book = b; line = [] }) nothing)
+      ∙ none_stays mends (drop (i + 1) text) [])
 
 -- the whole text was read
-pub all_read : (text : List ℕ) (i : ℕ) (book : BookValue) (line : List ℕ) → length text ≤ i → reading_of (take i text) ≡ so_far book line → Some book ≡ book_in text
-all_read text i book line all is = sym (ap book_in (sym (take_all i text all)) ∙ ap (λ (r : Reading). r.book) is)
+pub all_read : (mends : Bool) (text : List ℕ) (i : ℕ) (book : BookValue) (line : List ℕ) → length text ≤ i → reading_by mends (take i text) ≡ so_far book line → Some book ≡ book_by mends text
+all_read mends text i book line all is = sym (ap (book_by mends) (sym (take_all i text all)) ∙ ap (λ (r : Reading). r.book) is)
+
+-- ---- the line that can't be parsed
+
+-- what was looked through so far
+abbrev pub looked : BadLine → List ℕ → Option BadLine → Looking
+looked at line bad = record { at = at; line = line; bad = bad }
+
+module _ (text : List ℕ) (i : ℕ) (below : i < length text) (at : BadLine) (line : List ℕ) (bad : Option BadLine) (is : fold look_on unlooked (take i text) ≡ looked at line bad) where
+  looked_at : (octet : ℕ) → get_or text i 0 ≡ octet → fold look_on unlooked (take (i + 1) text) ≡ look_on (looked at line bad) octet
+  looked_at octet here =
+      ap (fold look_on unlooked) (take_more text i 0 below)
+      ∙ fold_push look_on unlooked (take i text) (get_or text i 0)
+      ∙ ap (λ (r : Looking). look_on r (get_or text i 0)) is
+      ∙ ap (λ (o : ℕ). look_on (looked at line bad) o) here
+
+  pub look_ends : get_or text i 0 ≡ 10
+      → fold look_on unlooked (take (i + 1) text) ≡ looked (record { line = at.line + 1; offset = at.offset + length line + 1 }) [] (first_bad bad line at)
+  look_ends ends = looked_at 10 ends
+
+  pub look_goes_on : (octet : ℕ) → get_or text i 0 ≡ octet → octet ≢ 10 → fold look_on unlooked (take (i + 1) text) ≡ looked at (line ++ octet ∷ []) bad
+  look_goes_on octet here more = looked_at octet here
+      ∙ ap (λ (b : Bool). if b then looked (record { line = at.line + 1; offset = at.offset + length line + 1 }) [] (first_bad bad line at) else looked at (line ++ octet ∷ []) bad) (ne_eqb octet 10 more)
+
+-- all was looked through
+pub all_looked : (text : List ℕ) (i : ℕ) (at : BadLine) (line : List ℕ) (bad : Option BadLine) → length text ≤ i → fold look_on unlooked (take i text) ≡ looked at line bad → bad ≡ bad_line_in text
+all_looked text i at line bad all is = sym (ap bad_line_in (sym (take_all i text all)) ∙ ap (λ (r : Looking). r.bad) is)
 
 -- ---- lines are written
 

@@ -1,9 +1,9 @@
 -- Worked rows: what the lines of a file say, and what is written of them.
-use Rattle.std.proofs.Common.{◌≡◌, [], ◌∷◌, ◌++◌, map, replicate, Some, None, codes, decimal, refl, append_assoc}
+use Rattle.std.proofs.Common.{◌≡◌, true, [], ◌∷◌, ◌++◌, map, replicate, Some, None, codes, decimal, refl, append_assoc}
 use Rattle.outbox_file.specs.declared.lines.Line.TheVariants.{Next, Queued, Began, Ended, Dropped}
 use Rattle.outbox_file.specs.Books.{empty, lines_of}
 use Rattle.outbox_file.specs.Files.{beside, found_book}
-use Rattle.outbox_file.specs.Texts.{book_in, line_in, line_text}
+use Rattle.outbox_file.specs.Texts.{bad_line_in, book_by, book_in, line_in, line_text}
 
 -- two files wait, one of them is under way, and the other ends; a cut tore the last line
 said : book_in (codes "next 3\nqueued 3 17 send alice 1 7 a b\nqueued 4 18 send bob 2 7 c d\nbegan 4\nbegan 3\nended 3\nended")
@@ -19,6 +19,21 @@ bad : map book_in
     ∷ codes "ended 18446744073709551616\n" ∷ codes "ended 3\nx\nended 4\n" ∷ [])
     ≡ replicate 10 None
 bad = refl
+
+-- a line with a zero was torn; mended, a text says what its other lines say
+torn : map book_in
+    ((codes "queued 3 17 send\nqueued 4 18 a" ++ (0 ∷ codes "\nended 3\n")) ∷ (0 ∷ 0 ∷ 10 ∷ []) ∷ [])
+    ≡ Some (record { entries = []; begun = []; next = 4 }) ∷ Some empty ∷ []
+torn = refl
+
+mended : book_by true (codes "queued 3 17 send\nquxued 4 18 a\nbegan 3\n")
+    ≡ Some (record { entries = record { number = 3; since = 17; words = codes "send" } ∷ []; begun = 3 ∷ []; next = 4 })
+mended = refl
+
+-- which line is bad
+bad_lines : map bad_line_in (codes "next 3\n" ∷ codes "x\n" ∷ codes "next 3\nended x\nx\n" ∷ (0 ∷ codes "x\nended\nx") ∷ codes "next 3\nended x" ∷ [])
+    ≡ None ∷ Some (record { line = 1; offset = 0 }) ∷ Some (record { line = 2; offset = 7 }) ∷ Some (record { line = 2; offset = 3 }) ∷ None ∷ []
+bad_lines = refl
 
 none : map found_book (None ∷ Some [] ∷ []) ≡ Some empty ∷ Some empty ∷ []
 none = refl

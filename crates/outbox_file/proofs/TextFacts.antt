@@ -15,7 +15,7 @@ use Rattle.line_words.proofs.WordFacts.{words_of-nonempty}
 use Rattle.outbox_file.specs.declared.book.Entry.{Entry}
 use Rattle.outbox_file.specs.declared.lines.Line.{Line}
 use Rattle.outbox_file.specs.declared.lines.Line.TheVariants.{Next, Queued, Began, Ended, Dropped}
-use Rattle.outbox_file.specs.Texts.{IsNumber, IsPlain, entry_line, is_line, line_by, line_in, line_words, numbered, queued_since, queued_text, short_alone}
+use Rattle.outbox_file.specs.Texts.{IsNumber, IsPlain, entry_line, is_line, is_whole, line_by, line_in, line_words, numbered, queued_since, queued_text, short_alone}
 
 -- ---- numbers
 
@@ -56,24 +56,35 @@ digits_lack mark none (digit ∷ digits) all =
 decimal_lacks : (mark : ℕ) → is_ascii_digit mark ≡ false → (n : ℕ) → IsNumber n → lacks mark (decimal n) ≡ true
 decimal_lacks mark none n fits = digits_lack mark none (decimal n) (digits_decimal own n fits)
 
--- ---- no line feed stands in a line
+-- ---- no line feed and no zero stand in a line
 
-numbered_line : (word : List ℕ) (n : ℕ) → is_line word ≡ true → IsNumber n → is_line (numbered word n) ≡ true
-numbered_line word n solid fits = both_lack 10 word (codes " " ++ decimal n) solid (both_lack 10 (codes " ") (decimal n) refl (decimal_lacks 10 refl n fits))
+numbered_lacks : (mark : ℕ) → is_ascii_digit mark ≡ false → lacks mark (codes " ") ≡ true → (word : List ℕ) (n : ℕ) → lacks mark word ≡ true → IsNumber n → lacks mark (numbered word n) ≡ true
+numbered_lacks mark none space word n solid fits = both_lack mark word (codes " " ++ decimal n) solid (both_lack mark (codes " ") (decimal n) space (decimal_lacks mark none n fits))
 
-pub words_line : (line : Line) → IsPlain line → is_line (line_words line) ≡ true
-words_line (Next number) plain = numbered_line (codes "next") number refl plain
-words_line (Queued entry) plain =
+queued_lacks : (mark : ℕ) → is_ascii_digit mark ≡ false → lacks mark (codes " ") ≡ true → lacks mark (codes "queued ") ≡ true → (entry : Entry) → IsNumber entry.number → IsNumber entry.since
+    → lacks mark entry.words ≡ true → lacks mark (queued_text entry) ≡ true
+queued_lacks mark none space kind entry number since words =
     let last : List ℕ = codes " " ++ entry.words in
     let rest : List ℕ = decimal entry.since ++ last in
-    both_lack 10 (codes "queued ") (decimal entry.number ++ (codes " " ++ rest)) refl
-    (both_lack 10 (decimal entry.number) (codes " " ++ rest) (decimal_lacks 10 refl entry.number plain.0)
-    (both_lack 10 (codes " ") rest refl
-    (both_lack 10 (decimal entry.since) last (decimal_lacks 10 refl entry.since plain.1)
-    (both_lack 10 (codes " ") entry.words refl plain.2))))
-words_line (Began number) plain = numbered_line (codes "began") number refl plain
-words_line (Ended number) plain = numbered_line (codes "ended") number refl plain
-words_line (Dropped number) plain = numbered_line (codes "dropped") number refl plain
+    both_lack mark (codes "queued ") (decimal entry.number ++ (codes " " ++ rest)) kind
+    (both_lack mark (decimal entry.number) (codes " " ++ rest) (decimal_lacks mark none entry.number number)
+    (both_lack mark (codes " ") rest space
+    (both_lack mark (decimal entry.since) last (decimal_lacks mark none entry.since since)
+    (both_lack mark (codes " ") entry.words space words))))
+
+pub words_line : (line : Line) → IsPlain line → is_line (line_words line) ≡ true
+words_line (Next number) plain = numbered_lacks 10 refl refl (codes "next") number refl plain
+words_line (Queued entry) plain = queued_lacks 10 refl refl refl entry plain.0 plain.1 plain.2
+words_line (Began number) plain = numbered_lacks 10 refl refl (codes "began") number refl plain
+words_line (Ended number) plain = numbered_lacks 10 refl refl (codes "ended") number refl plain
+words_line (Dropped number) plain = numbered_lacks 10 refl refl (codes "dropped") number refl plain
+
+pub words_whole : (line : Line) → IsPlain line → is_whole (line_words line) ≡ true
+words_whole (Next number) plain = numbered_lacks 0 refl refl (codes "next") number refl plain
+words_whole (Queued entry) plain = queued_lacks 0 refl refl refl entry plain.0 plain.1 plain.3
+words_whole (Began number) plain = numbered_lacks 0 refl refl (codes "began") number refl plain
+words_whole (Ended number) plain = numbered_lacks 0 refl refl (codes "ended") number refl plain
+words_whole (Dropped number) plain = numbered_lacks 0 refl refl (codes "dropped") number refl plain
 
 -- ---- a line is read
 

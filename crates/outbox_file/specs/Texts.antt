@@ -1,11 +1,12 @@
 -- Meaning. The text of an outbox's file, and what it says.
-use Rattle.std.specs.Prelude.{◌≡◌, ℕ, ◌^◌, ◌-◌, ◌<◌, ◌==◌, Bool, true, not, List, [], ◌∷◌, ◌++◌, Option, Some, None, codes, decimal, if◌then◌else◌}
+use Rattle.std.specs.Prelude.{◌≡◌, ℕ, ◌+◌, ◌^◌, ◌-◌, ◌<◌, ◌==◌, ◌&&◌, Bool, true, false, not, length, List, [], ◌∷◌, ◌++◌, Option, Some, None, codes, decimal, if◌then◌else◌}
 use Rattle.std.specs.List.{fold, join_with_byte, list_all}
-use Rattle.std.specs.Option.{option_map}
+use Rattle.std.specs.Option.{is_some, option_map}
 use Rattle.std.specs.Str.{bytes_eq}
 use Rattle.line_words.specs.Operands.{◌>>=◌, number_of}
 use Rattle.line_words.specs.Words.{words_of}
 use Rattle.outbox_file.specs.declared.book.Entry.{Entry}
+use Rattle.outbox_file.specs.declared.reading.BadLine.{BadLine}
 use Rattle.outbox_file.specs.declared.lines.Line.{Line}
 use Rattle.outbox_file.specs.declared.lines.Line.TheVariants.{Next, Queued, Began, Ended, Dropped}
 use Rattle.outbox_file.specs.Books.{BookValue, after, empty, lines_of}
@@ -87,6 +88,14 @@ line_by words = None
 abbrev pub line_in : List ℕ → Option Line
 line_in text = line_by (words_of text)
 
+-- words without a line feed
+abbrev pub is_line : List ℕ → Bool
+is_line words = list_all (λ octet. not (octet == 10)) words
+
+-- words without a zero, which a power cut may leave in place of any octet
+abbrev pub is_whole : List ℕ → Bool
+is_whole words = list_all (λ octet. not (octet == 0)) words
+
 -- what was read: what the whole lines say, if each says something, and the octets of the line that hasn't ended
 pub record Reading : Type 0 where
   pub book : Option BookValue
@@ -96,26 +105,70 @@ pub record Reading : Type 0 where
 abbrev pub unread : Reading
 unread = record { book = Some empty; line = [] }
 
--- after one more line
-abbrev pub noted : Option Line → Option BookValue → Option BookValue
-noted line book = do
-  of_line ← line
-  of_book ← book
-  Some (after of_line of_book)
+-- after a whole line; a text that is mended goes on behind one that can't be parsed
+abbrev pub said : Bool → Option Line → Option BookValue → Option BookValue
+said mends (Some line) book = option_map (after line) book
+said true None book = book
+said false None book = None
+
+-- after one more line; one with a zero was torn by a power cut, and says nothing
+abbrev pub noted : Bool → List ℕ → Option BookValue → Option BookValue
+noted mends line book = if is_whole line then said mends (line_in line) book else book
 
 -- after one more octet: a line feed ends a line
-abbrev pub read_on : Reading → ℕ → Reading
-read_on reading octet =
-    if octet == 10 then record { book = noted (line_in reading.line) reading.book; line = [] }
+abbrev pub read_on : Bool → Reading → ℕ → Reading
+read_on mends reading octet =
+    if octet == 10 then record { book = noted mends reading.line reading.book; line = [] }
     else record reading { line = reading.line ++ octet ∷ [] }
 
--- after a text
+-- after a text, which is mended or not
+abbrev pub reading_by : Bool → List ℕ → Reading
+reading_by mends text = fold (read_on mends) unread text
+
 abbrev pub reading_of : List ℕ → Reading
-reading_of text = fold read_on unread text
+reading_of text = reading_by false text
 
 -- what a file with this text says; what follows its last line feed says nothing
+abbrev pub book_by : Bool → List ℕ → Option BookValue
+book_by mends text = (reading_by mends text).book
+
 abbrev pub book_in : List ℕ → Option BookValue
-book_in text = (reading_of text).book
+book_in text = book_by false text
+
+-- ---- the line that can't be parsed
+
+-- what was looked through: where the line begins that hasn't ended, its octets, and the first one that can't be parsed
+pub record Looking : Type 0 where
+  pub at : BadLine
+  pub line : List ℕ
+  pub bad : Option BadLine
+
+-- before anything was looked at
+abbrev pub unlooked : Looking
+unlooked = record { at = record { line = 1; offset = 0 }; line = []; bad = None }
+
+-- a line can't be parsed, and no power cut tore it
+abbrev pub is_bad : List ℕ → Bool
+is_bad line = is_whole line && not (is_some (line_in line))
+
+-- the first one, with one more line
+abbrev pub first_bad : Option BadLine → List ℕ → BadLine → Option BadLine
+first_bad (Some bad) line at = Some bad
+first_bad None line at = if is_bad line then Some at else None
+
+-- after one more octet
+abbrev pub look_on : Looking → ℕ → Looking
+look_on looking octet =
+    if octet == 10 then record {
+      at = record { line = looking.at.line + 1; offset = looking.at.offset + length looking.line + 1 };
+      line = [];
+      bad = first_bad looking.bad looking.line looking.at;
+    }
+    else record looking { line = looking.line ++ octet ∷ [] }
+
+-- the first line of a text that can't be parsed
+abbrev pub bad_line_in : List ℕ → Option BadLine
+bad_line_in text = (fold look_on unlooked text).bad
 
 -- ---- which lines are read as they were written
 
@@ -123,14 +176,10 @@ book_in text = (reading_of text).book
 abbrev pub IsNumber : ℕ → Type 0
 IsNumber number = number < 2 ^ 64
 
--- words without a line feed
-abbrev pub is_line : List ℕ → Bool
-is_line words = list_all (λ octet. not (octet == 10)) words
-
 -- such a line
 abbrev pub IsPlain : Line → Type 0
 IsPlain (Next number) = IsNumber number
-IsPlain (Queued entry) = IsNumber entry.number × IsNumber entry.since × (is_line entry.words ≡ true)
+IsPlain (Queued entry) = IsNumber entry.number × IsNumber entry.since × (is_line entry.words ≡ true) × (is_whole entry.words ≡ true)
 IsPlain (Began number) = IsNumber number
 IsPlain (Ended number) = IsNumber number
 IsPlain (Dropped number) = IsNumber number

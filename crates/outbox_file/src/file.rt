@@ -1,23 +1,23 @@
 //! The file on a disk.
-ghost use Rattle.std.specs.Prelude.{◌≡◌, ◌⊎◌, ◌-◌, ◌^◌, false, true, Err, IfOk, OnOk, string_bytes};
+ghost use Rattle.std.specs.Prelude.{◌≡◌, ◌≢◌, ◌⊎◌, ◌-◌, ◌^◌, ◌&&◌, false, true, Err, IfOk, None, Ok, OnOk, Some, string_bytes};
 ghost use Rattle.std.specs.List.{list_any};
 ghost use Rattle.disk.specs.Crash.Content.{flushed};
 ghost use Rattle.disk.specs.Parts.{IsKept};
 ghost use Rattle.disk.specs.Promise.{Changes, Is, Whole};
 ghost use Rattle.disk.specs.Steps.{is_slash};
 ghost use Rattle.outbox_file.specs.Books.{after, value};
-ghost use Rattle.outbox_file.specs.Files.{IsPlainBook, IsStored, Notes, NotesLine, Opens, Reads, beside, queued_entry};
-ghost use Rattle.outbox_file.specs.Texts.{IsPlain, is_line, line_text};
+ghost use Rattle.outbox_file.specs.Files.{IsMended, IsPlainBook, IsStored, KeptAside, Notes, NotesLine, Opens, Reads, beside, fault_at, queued_entry};
+ghost use Rattle.outbox_file.specs.Texts.{IsPlain, bad_line_in, book_in, is_line, is_whole, line_text};
 ghost use Rattle.outbox_file.specs.declared.lines.Line.TheVariants as line;
 
 use crate::book::{Book, Entry};
 use crate::lines::{Line, push_line};
-use crate::reading::{book_in, book_text};
+use crate::reading::{BadLine, bad_line_in, book_by, book_text, is_whole};
 use cfdp_types::Octets;
 use disk::{Disk, Fault};
 use std::alloc::Global;
 use std::marker::Model;
-use whole_files::replace_beside;
+use whole_files::{keep_file, replace_beside};
 
 // A file may grow to this many times the length that it had when it was written as a whole.
 const GROWTH: usize = 10;
@@ -28,11 +28,13 @@ const LEAST_OCTETS: usize = 4_096;
 /// Why nothing is noted.
 #[derive(Clone, Copy, Debug, PartialEq, Eq)]
 pub enum StoredOutboxFault {
-    /// The file can't be read, or has a line that can't be parsed.
+    /// The file can't be read.
     Unreadable,
+    /// The file has a line that can't be parsed; this is the first.
+    BadLine(BadLine),
     /// The file can't be written.
     Unwritable,
-    /// The words aren't a line, because they have a line feed.
+    /// The words aren't a line, because they have a line feed or a zero octet.
     NoLine,
     /// No number is left.
     Over,
@@ -96,13 +98,19 @@ impl<D: Disk + Drop> Model for StoredOutbox<D> {
 impl<D: Disk + Drop> StoredOutbox<D> {
     /// Opens the file of this name in the disk's own folder: reads it, and writes what it says again as a whole, so
     /// that an error shows before anything is queued. If there is no file, nothing was queued yet. What follows the
-    /// last line feed is ignored: a power cut tore that line. A file with a line that can't be parsed is left as it is.
-    /// A name with a slash can't be written.
-    pub fn open(disk: D, alloc: Global, path: String) -> Result<StoredOutbox<D>, StoredOutboxFault>
-        ensures { IfOk result (λ file. Opens (string_bytes path) (D.done disk) file) }
+    /// last line feed is ignored, and so is a line with a zero octet: a power cut tore it. If another line can't be
+    /// parsed, the file is left as it is; or, with `mends`, its octets are kept beside it, and it goes on with what its
+    /// other lines say. A name with a slash can't be written.
+    pub fn open(
+        disk: D,
+        alloc: Global,
+        path: String,
+        mends: bool,
+    ) -> Result<StoredOutbox<D>, StoredOutboxFault>
+        ensures { IfOk result (λ file. Opens mends (string_bytes path) (D.done disk) file) }
     {
         let mut disk = disk;
-        let book = read_book(&mut disk, alloc, path.as_str())?;
+        let book = read_book(&mut disk, alloc, path.as_str(), mends)?;
         let Ok(text) = book_text(alloc, &book) else {
             return Err(StoredOutboxFault::NoMemory);
         };
@@ -143,7 +151,7 @@ impl<D: Disk + Drop> StoredOutbox<D> {
     pub fn queued(&mut self, since: u64, words: &[u8]) -> Result<u64, StoredOutboxFault>
         ensures number { IfOk result (λ number. number ≡ self.old.book.next) }
         ensures over { self.old.book.next ≡ 2 ^ 64 - 1 → result ≡ Err StoredOutboxFault.Over }
-        ensures no_line { is_line words.now ≡ false
+        ensures no_line { (is_line words.now && is_whole words.now) ≡ false
             → (result ≡ Err StoredOutboxFault.NoLine) ⊎ (result ≡ Err StoredOutboxFault.Over) }
         ensures notes { NotesLine (line.Queued (queued_entry self.old.book.next since words.now)) self.old result self.new }
     {
@@ -151,7 +159,7 @@ impl<D: Disk + Drop> StoredOutbox<D> {
         if number == u64::MAX {
             return Err(StoredOutboxFault::Over);
         }
-        if !is_line(words) {
+        if !is_line(words) || !is_whole(words) {
             return Err(StoredOutboxFault::NoLine);
         }
         let Ok(words) = Octets::from_slice(self.alloc, words) else {
@@ -222,17 +230,82 @@ fn is_line(words: &[u8]) -> bool
 }
 
 // What the file says; if there is none, nothing was queued yet.
-fn read_book<D: Disk>(disk: &mut D, alloc: Global, path: &str) -> Result<Book, StoredOutboxFault>
-    ensures { IfOk result (λ book. Reads path.now (value book) (D.done disk.old) (D.done disk.new)) }
+fn read_book<D: Disk>(
+    disk: &mut D,
+    alloc: Global,
+    path: &str,
+    mends: bool,
+) -> Result<Book, StoredOutboxFault>
+    ensures reads { IfOk result (λ book. Reads mends path.now (value book) (D.done disk.old) (D.done disk.new)) }
+    ensures mended { mends ≡ true → (bad : BadLine) → result ≢ Err (StoredOutboxFault.BadLine bad) }
 {
     match disk.read(path) {
-        Ok(Some(text)) => match book_in(alloc, text.as_slice()) {
+        Ok(Some(text)) => match book_by(alloc, text.as_slice(), false) {
             Ok(Some(book)) => Ok(book),
-            Ok(None) => Err(StoredOutboxFault::Unreadable),
+            Ok(None) => mended_book(disk, alloc, path, text.as_slice(), mends),
             Err(_) => Err(StoredOutboxFault::NoMemory),
         },
         Ok(None) => Ok(Book::new(alloc)),
         Err(_) => Err(StoredOutboxFault::Unreadable),
+    }
+}
+
+// What a text says without the lines that can't be parsed, once its octets are kept beside the file.
+fn mended_book<D: Disk>(
+    disk: &mut D,
+    alloc: Global,
+    path: &str,
+    text: &[u8],
+    mends: bool,
+) -> Result<Book, StoredOutboxFault>
+    requires { book_in text.now ≡ None }
+    ensures mended { IfOk result (λ book. IsMended mends path.now (Some text.now) (value book) (D.done disk.old) (D.done disk.new)) }
+    ensures bad { mends ≡ false → (result ≡ Err StoredOutboxFault.NoMemory)
+        ⊎ (result ≡ Err (fault_at (bad_line_in text.now))) }
+    ensures not_bad { mends ≡ true → (bad : BadLine) → result ≢ Err (StoredOutboxFault.BadLine bad) }
+{
+    if !mends {
+        return Err(bad_line_of(alloc, text));
+    }
+    keep_aside(disk, alloc, path, text)?;
+    match book_by(alloc, text, true) {
+        Ok(Some(book)) => Ok(book),
+        Ok(None) => Err(StoredOutboxFault::Unreadable),
+        Err(_) => Err(StoredOutboxFault::NoMemory),
+    }
+}
+
+// The fault of a text with a line that can't be parsed.
+fn bad_line_of(alloc: Global, text: &[u8]) -> StoredOutboxFault
+    ensures { (result ≡ StoredOutboxFault.NoMemory) ⊎ (result ≡ fault_at (bad_line_in text.now)) }
+{
+    match bad_line_in(alloc, text) {
+        Ok(Some(bad)) => StoredOutboxFault::BadLine(bad),
+        Ok(None) => StoredOutboxFault::Unreadable,
+        Err(_) => StoredOutboxFault::NoMemory,
+    }
+}
+
+// Keeps the octets of a file beside it.
+fn keep_aside<D: Disk>(
+    disk: &mut D,
+    alloc: Global,
+    path: &str,
+    text: &[u8],
+) -> Result<(), StoredOutboxFault>
+    ensures aside { OnOk result (KeptAside path.now text.now (D.done disk.old) (D.done disk.new)) }
+    ensures fault { (result ≡ Ok tt) ⊎ ((result ≡ Err StoredOutboxFault.NoMemory) ⊎ (result ≡ Err StoredOutboxFault.Unwritable)) }
+{
+    let Ok(aside) = format!(in alloc; "{path}.bad") else {
+        return Err(StoredOutboxFault::NoMemory);
+    };
+    if has_slash(aside.as_str()) {
+        return Err(StoredOutboxFault::Unwritable);
+    }
+    let mut next = 0;
+    match keep_file(disk, alloc, aside.as_str(), &mut next, text) {
+        Ok(_) => Ok(()),
+        Err(_) => Err(StoredOutboxFault::Unwritable),
     }
 }
 

@@ -9,3 +9,4 @@ mod reading;
 pub use book::{Book, Entry};
 pub use file::{StoredOutbox, StoredOutboxFault};
 pub use lines::Line;
+pub use reading::{BadLine, bad_line_in};

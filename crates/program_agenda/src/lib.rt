@@ -19,4 +19,4 @@ pub use pace::Pace;
 pub use resting::{Resting, RestingTimers, deadline_behind};
 pub use rotation::Rotation;
 pub use sending::Sending;
-pub use store_queue::StoreQueue;
+pub use store_queue::{Retry, StoreQueue};

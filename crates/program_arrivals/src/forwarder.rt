@@ -1,5 +1,6 @@
 //! Handles what the entity returns to a worker.
 use crate::arrivals::Arrivals;
+use crate::turns::{Early, Turn};
 use cfdp_types::EntityId;
 use entity_config::Config;
 use entity_routing::RouteRefusal;
@@ -41,6 +42,8 @@ pub struct Forwarder<'a, R> {
     lot: WorkersLot<'a>,
     /// Memory for the datagram that the worker reads.
     pub(crate) datagram: Vec<u8>,
+    /// The turn of the datagram that was handed in last, until it is over.
+    pub(crate) turn: Option<Turn>,
     /// The number of octets of the last datagram, and its source address.
     last: Option<(usize, SocketAddr)>,
     /// Whether the PDU that was handed over last is a Prompt.
@@ -57,18 +60,45 @@ impl<'a, R: Wait + Clock> Forwarder<'a, R> {
         from: SocketAddr,
         compared: Compared,
     ) -> bool {
+        let place = self.look_up(octets, from, compared);
+        self.traffic.note_arrival(octets, place);
+        place.is_some()
+    }
+
+    /// Takes a datagram that was read before its turn as the one that was read. Returns how many octets it has, and
+    /// whether its source address is in the configuration.
+    pub(crate) fn recall(&mut self, early: &Early, compared: Compared) -> (usize, bool) {
+        let octets = early.octets.as_slice();
+        let count = octets.len();
+        let room = self.datagram.as_mut_slice();
+        if count <= room.len() {
+            room[..count].copy_from_slice(octets);
+        }
+        self.turn = Some(early.turn);
+        let place = self.look_up(count, early.from, compared);
+        (count, place.is_some())
+    }
+
+    /// The source address that was looked up last, if the configuration doesn't have it and not all are taken.
+    pub(crate) fn stranger(&self, takes_all: bool) -> Option<SocketAddr> {
+        match self.known {
+            Some((address, None)) if !takes_all => Some(address),
+            _ => None,
+        }
+    }
+
+    // Notes which datagram was read last; returns the position of its remote entity in the configuration, from 0.
+    fn look_up(&mut self, octets: usize, from: SocketAddr, compared: Compared) -> Option<usize> {
         self.last = Some((octets, from));
         let known = self.known;
-        let place = match known {
+        match known {
             Some((address, place)) if address == from => place,
             _ => {
                 let place = self.sender.place_of(from, compared);
                 self.known = Some((from, place));
                 place
             }
-        };
-        self.traffic.note_arrival(octets, place);
-        place.is_some()
+        }
     }
 
     /// Notes that the datagram that was read is a PDU of a remote entity with its address, if that is wanted.
@@ -272,6 +302,7 @@ pub fn forwarders_of<'a, N: Names, R: Copy>(
             traffic,
             ledger: &tallies.ledger,
             lot: WorkersLot::new(alloc, config, lot),
+            turn: None,
             last: None,
             is_prompted: false,
             known: None,

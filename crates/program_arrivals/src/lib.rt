@@ -4,6 +4,8 @@
 
 mod arrivals;
 mod forwarder;
+mod turns;
 
 pub use arrivals::{Arrivals, Sources};
 pub use forwarder::{Forwarder, forwarders_of, run_forwarders};
+pub use turns::Turns;

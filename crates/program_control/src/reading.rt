@@ -49,7 +49,7 @@ pub(crate) fn read_commands<R: Wait + Clock, F: FileReader, B: BufRead + Drop>(
                     }
                 } else {
                     if count as u64 >= COMMAND_OCTETS {
-                        let _answered = ask(rt, asker, Said::Nothing, desk, seats);
+                        let _answered = ask(rt, asker, Said::Bad(Vec::new(alloc)), desk, seats);
                     }
                     false
                 }

@@ -25,7 +25,7 @@ pub fn read_lines<R: Wait + Clock, F: FileReader, B: BufRead>(
         let wants_more = match next_line(reader, &mut line) {
             Ok(NextLine::Line) => leave_line(rt, alloc, files, config, line.as_slice(), desk),
             Ok(NextLine::TooLong) => {
-                desk.leave_line(rt, Said::Nothing, None) && skip_line(rt, reader)
+                desk.leave_line(rt, Said::Bad(Vec::new(alloc)), None) && skip_line(rt, reader)
             },
             Ok(NextLine::End) | Err(ReplayFault::Read) => false,
             Err(_) => {

@@ -5,7 +5,7 @@ use crate::desk::Desk;
 use cfdp_types::Octets;
 use entity_config::Config;
 use program_start::{FileReader, ProgramFault};
-use server_lines::{Command, PutCommand, SendCommand, command_of};
+use server_lines::{Command, PutCommand, SendCommand, command_of, line_fault};
 use std::alloc::{AllocError, Global};
 use std::sync::Wait;
 use std::time::Clock;
@@ -19,8 +19,8 @@ pub enum Said {
     Put(PutCommand, Result<Octets, ProgramFault>),
     /// A file for the outbox that was looked at: its size, or the fault if it can't be read.
     Send(SendCommand, Result<u64, ProgramFault>),
-    /// The line is not a command.
-    Nothing,
+    /// The line is not a command: why, in words, as far as that was looked for.
+    Bad(Vec<u8>),
     /// Memory for the line ran out.
     NoMemory,
 }
@@ -56,7 +56,10 @@ pub fn said_by<R: Wait + Clock, F: FileReader>(
             }
         }
         Ok(Some(command)) => Said::Command(command),
-        Ok(None) => Said::Nothing,
+        Ok(None) => match line_fault(alloc, config, line) {
+            Ok(why) => Said::Bad(why),
+            Err(AllocError) => Said::NoMemory,
+        },
         Err(AllocError) => Said::NoMemory,
     }
 }

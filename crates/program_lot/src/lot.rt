@@ -66,7 +66,7 @@ impl Lot {
         )?;
         Ok(Lot {
             lanes: Mutex::new(Lanes {
-                parking: Parking::new(alloc, count, room)?,
+                parking: Parking::new(alloc, sources_of(alloc, config)?, config.remotes(), room)?,
                 turns,
                 first: 0,
             }),
@@ -247,6 +247,25 @@ impl Lot {
     }
 }
 
+// Each lane's source, over all users: a number for each remote entity, and one more for the entity itself.
+fn sources_of(alloc: Global, config: &Config) -> Result<Vec<usize>, AllocError> {
+    let entity = config.entity();
+    let mut sources = Vec::new(alloc);
+    let mut first = 0usize;
+    for user in 0..config.users() {
+        for _lane in 0..entity.put_lanes {
+            sources.push(config.remotes())?;
+        }
+        for place in 0..config.sources(user) {
+            for _lane in 0..entity.receive_lanes {
+                sources.push(first.saturating_add(place))?;
+            }
+        }
+        first = first.saturating_add(config.sources(user));
+    }
+    Ok(sources)
+}
+
 // How many datagrams wait for a lane.
 fn count_in(lanes: &Lanes, index: usize) -> usize {
     match lanes.parking.lanes().get(index) {
@@ -269,14 +288,26 @@ fn park_in(
     {
         turn.due = now.saturating_add(RETRY_MS);
     }
+    let made = make_room_in(lanes, index, number, octets.len());
     let before = count_in(lanes, index);
     if lanes.parking.park(index, number, since, octets).is_ok() {
-        return note_dropped(lanes, index, before.saturating_add(1));
+        return made.saturating_add(note_dropped(lanes, index, before.saturating_add(1)));
     }
-    let given_up = give_way_in(lanes);
+    let given_up = made.saturating_add(give_way_in(lanes));
     let left = count_in(lanes, index);
     let _has_memory = lanes.parking.park(index, number, since, octets);
     given_up.saturating_add(note_dropped(lanes, index, left.saturating_add(1)))
+}
+
+// Makes room for a datagram of so many octets, where another lane gives way to it. Counts what is dropped there, and
+// returns how many datagrams that was.
+fn make_room_in(lanes: &mut Lanes, index: usize, number: u64, octets: usize) -> usize {
+    let Some(holder) = lanes.parking.giving(index, number, octets) else {
+        return 0;
+    };
+    let before = count_in(lanes, holder.place);
+    lanes.parking.shorten(holder);
+    note_dropped(lanes, holder.place, before)
 }
 
 // Counts what was dropped of a lane that had so many datagrams, and returns how many datagrams that was.

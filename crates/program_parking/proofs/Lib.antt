@@ -1,3 +1,4 @@
+pub mod SharingFacts
 pub mod PlaceFacts
 pub mod ParkingFacts
 pub mod ParkingRows

@@ -1,10 +1,10 @@
 -- Worked lines of datagrams.
-use Rattle.std.proofs.Common.{◌≡◌, ℕ, ◌-◌, true, false, List, [], ◌∷◌, Some, None, refl}
+use Rattle.std.proofs.Common.{◌≡◌, ℕ, ◌-◌, true, false, List, [], ◌∷◌, Some, None, map, refl}
 use Rattle.std.specs.List.{list_any}
 use Rattle.program_parking.specs.declared.outcome.Outcome.TheVariants.{Taken, Refused, Waits}
 use Rattle.program_parking.specs.declared.parked.Parked.{Parked}
-use Rattle.program_parking.specs.Lanes.{LaneValue, cost, halved, inserted, is_crowded, is_one, lendable, lending, oldest, parked_in, settled, transactions, without_number}
-use Rattle.program_parking.specs.Parkings.{ParkingValue, limit, parked}
+use Rattle.program_parking.specs.Lanes.{LaneValue, cost, halved, inserted, is_crowded, is_one, lendable, lending, oldest, parked_in, settled, shortened, transactions, without_number}
+use Rattle.program_parking.specs.Parkings.{ParkingValue, giving, held, limit, parked, share_of}
 
 -- a datagram of two octets, of a transaction, that came so late
 abbrev pub datagram : ℕ → ℕ → Parked
@@ -86,16 +86,67 @@ since_when = refl
 
 -- two lanes and a room: a quarter of it for one lane, and what the other leaves
 abbrev pub both : ParkingValue
-both = record { lanes = lane ∷ record { waiting = []; is_lent = false; floor = 0 } ∷ []; arrivals = 3; room = 1000 }
+both = record {
+  lanes = lane ∷ record { waiting = []; is_lent = false; floor = 0 } ∷ [];
+  sources = 0 ∷ 1 ∷ [];
+  arrivals = 3;
+  room = 1000;
+  share = 500;
+  remotes = 2;
+}
 
-a_quarter : limit lane both ≡ 250
+a_quarter : limit lane 0 both ≡ 250
 a_quarter = refl
 
-what_is_left : limit (record { waiting = []; is_lent = false; floor = 0 }) (record both { room = 240 }) ≡ 42
+what_is_left : limit (record { waiting = []; is_lent = false; floor = 0 }) 1 (record both { room = 240 }) ≡ 42
 what_is_left = refl
+
+-- of a source's share, what its other lanes leave
+of_the_share : limit (record { waiting = []; is_lent = false; floor = 0 }) 0 (record both { share = 200 }) ≡ 2
+of_the_share = refl
+
+a_source_holds : held 0 (0 ∷ 1 ∷ []) both.lanes ≡ 198
+a_source_holds = refl
+
+-- a quarter, or more where there are fewer than four remote entities
+shares : map (share_of 1200) (0 ∷ 1 ∷ 2 ∷ 3 ∷ 4 ∷ 5 ∷ []) ≡ 1200 ∷ 1200 ∷ 600 ∷ 400 ∷ 300 ∷ 300 ∷ []
+shares = refl
 
 one_more : (parked 1 5 60 (1 ∷ []) both).arrivals ≡ 4
 one_more = refl
 
 too_late : parked 0 7 60 (1 ∷ []) both ≡ both
 too_late = refl
+
+-- five lanes that take up 198 octets each, the first two of one source, and one more lane
+abbrev pub nothing : LaneValue
+nothing = record { waiting = []; is_lent = false; floor = 0 }
+
+abbrev pub full : ParkingValue
+full = record {
+  lanes = lane ∷ lane ∷ lane ∷ lane ∷ lane ∷ nothing ∷ [];
+  sources = 0 ∷ 0 ∷ 1 ∷ 2 ∷ 3 ∷ 4 ∷ [];
+  arrivals = 15;
+  room = 1000;
+  share = 396;
+  remotes = 5;
+}
+
+-- where the room is full, the source that takes up most gives way, of its lanes the largest, by what is missing
+largest_gives_way : giving 5 5 2 full ≡ Some (record { place = 0; octets = 142 })
+largest_gives_way = refl
+
+not_less_than_the_share : giving 0 8 2 full ≡ None
+not_less_than_the_share = refl
+
+within_the_share : giving 1 8 2 (record full { lanes = nothing ∷ lane ∷ lane ∷ []; room = 2000; share = 250 }) ≡ None
+within_the_share = refl
+
+own_source_gives_way : giving 0 8 2 (record full { lanes = nothing ∷ lane ∷ lane ∷ []; room = 2000; share = 250 }) ≡ Some (record { place = 1; octets = 184 })
+own_source_gives_way = refl
+
+there_is_room : giving 5 5 2 (record full { room = 2000 }) ≡ None
+there_is_room = refl
+
+last_ones_go : (shortened 142 lane).waiting ≡ datagram 8 0 ∷ datagram 8 2 ∷ []
+last_ones_go = refl

@@ -77,6 +77,12 @@ fitting_room limit (one ∷ xs) = by (nat_le (cost one) limit) refl (fitting_roo
         let nothing : costs [] ≤ limit = omega arith in
         rw (fitting-not limit one xs none) nothing
 
+pub fitting_less : (limit : ℕ) (xs : List Parked) → costs (fitting limit xs) ≤ costs xs
+fitting_less limit xs =
+    let parts : costs (take (length (fitting limit xs)) xs) + costs (drop (length (fitting limit xs)) xs) ≡ costs xs = sum_by-take-drop cost xs (length (fitting limit xs)) in
+    let less : costs (take (length (fitting limit xs)) xs) ≤ costs xs = omega arith in
+    rw (fitting_is_front limit xs) at less
+
 -- ---- a line without one transaction
 
 pub costs_filter : (p : Parked → Bool) (xs : List Parked) → costs (filter p xs) ≤ costs xs

@@ -50,6 +50,10 @@ parked_in limit one lane = record lane { waiting = within limit (inserted one la
 abbrev pub halved : LaneValue → LaneValue
 halved lane = record lane { waiting = fitting (costs lane.waiting / 2) lane.waiting }
 
+-- the last datagrams, those of the highest numbers, go until the others take up so much at most
+abbrev pub shortened : ℕ → LaneValue → LaneValue
+shortened limit lane = record lane { waiting = fitting limit lane.waiting }
+
 -- ---- handing in
 
 -- the datagram that is handed in next, unless one is being handed in

@@ -1,6 +1,6 @@
 ghost use Rattle.std.specs.Prelude.{◌≡◌, ◌≤◌, ◌<◌, ◌+◌, ◌-◌, [], false, true, not, length, take, drop, IfOk, OnOk, OnErr};
 ghost use Rattle.std.specs.List.{filter, list_any, position, position_or_len};
-ghost use Rattle.program_parking.specs.Lanes.{behind, cost, costs, fitting, halved, inserted, is_above, is_behind, is_crowded, is_none_of, is_of_other, is_one, lendable, lending, oldest, parked_in, settled, transactions, within, without_number};
+ghost use Rattle.program_parking.specs.Lanes.{behind, cost, costs, fitting, halved, inserted, is_above, is_behind, is_crowded, is_none_of, is_of_other, is_one, lendable, lending, oldest, parked_in, settled, shortened, transactions, within, without_number};
 
 use crate::counted::Counted;
 use crate::outcome::Outcome;
@@ -143,6 +143,15 @@ impl LaneParking {
         ensures room { costs self.new.waiting ≤ costs self.old.waiting }
     {
         let limit = self.octets / 2;
+        self.octets = shorten(&mut self.waiting, limit);
+    }
+
+    /// Drops the last datagrams, those of the highest numbers, until the others take up so many octets at most.
+    #[tactic(auto, using(crate::proofs::PlaceFacts::fitting_less))]
+    pub fn shorten(&mut self, limit: u64)
+        ensures after { self.new ≡ shortened limit self.old }
+        ensures room { costs self.new.waiting ≤ costs self.old.waiting }
+    {
         self.octets = shorten(&mut self.waiting, limit);
     }
 

@@ -7,9 +7,11 @@ mod lane;
 mod outcome;
 mod parked;
 mod parking;
+mod sharing;
 
 pub use counted::Counted;
 pub use lane::{LaneParking, MOST_DATAGRAMS};
 pub use outcome::Outcome;
 pub use parked::{Lent, Parked};
 pub use parking::Parking;
+pub use sharing::Holder;

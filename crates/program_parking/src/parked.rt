@@ -4,7 +4,7 @@ ghost use Rattle.program_parking.specs.Lanes.{cost};
 use cfdp_types::Octets;
 
 /// How many octets a datagram takes up in the room besides its own.
-const OVERHEAD_OCTETS: u64 = 64;
+pub(crate) const OVERHEAD_OCTETS: u64 = 64;
 
 /// A parked datagram.
 #[derive(Debug, Drop)]

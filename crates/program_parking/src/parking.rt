@@ -1,11 +1,12 @@
 ghost use Rattle.std.specs.Prelude.{◌≡◌, ◌≤◌, ◌<◌, ◌+◌, ◌-◌, ◌/◌, All, length, min, set, slice_get, slice_index, IfOk, OnOk, OnErr, Some, false, []};
 ghost use Rattle.std.specs.Option.{option_copied};
-ghost use Rattle.program_parking.specs.Lanes.{LaneValue, costs, halved, lendable, lending, parked_in, settled, without_number};
-ghost use Rattle.program_parking.specs.Parkings.{IsKept, lendable_at, limit, parked, replaced, used};
+ghost use Rattle.program_parking.specs.Lanes.{LaneValue, costs, halved, lendable, lending, parked_in, settled, shortened, without_number};
+ghost use Rattle.program_parking.specs.Parkings.{IsKept, giving, held, lendable_at, limit, parked, replaced, share_of, source_at, used};
 
 use crate::lane::LaneParking;
 use crate::outcome::Outcome;
-use crate::parked::{Lent, Parked};
+use crate::parked::{Lent, OVERHEAD_OCTETS, Parked};
+use crate::sharing::{Holder, Rules, giving_by, held_by, limit_of, source_of};
 use cfdp_types::Octets;
 use std::alloc::{AllocError, Global};
 use std::marker::Model;
@@ -15,39 +16,54 @@ use std::marker::Model;
 pub struct Parking {
     alloc: Global,
     lanes: Vec<LaneParking>,
+    /// Each lane's source.
+    sources: Vec<usize>,
     octets: u64,
     arrivals: u64,
     room: u64,
+    share: u64,
+    remotes: usize,
 }
 
 impl Model for Parking {
-    ghost use Rattle.std.specs.Prelude.{◌≡◌};
+    ghost use Rattle.std.specs.Prelude.{◌≡◌, length};
     ghost use Rattle.program_parking.specs.Parkings.{IsKept, ParkingValue, used};
 
     ghost Value = { ParkingValue };
 
-    ghost view = { λ p. record { lanes = p.lanes.items; arrivals = p.arrivals; room = p.room } };
+    ghost view = { λ p. record { lanes = p.lanes.items; sources = p.sources.items; arrivals = p.arrivals; room = p.room; share = p.share; remotes = p.remotes } };
 
-    ghost invariant = { λ p. (p.octets ≡ used p.lanes.items) × IsKept p.room p.lanes.items };
+    ghost invariant = { λ p. (p.octets ≡ used p.lanes.items) × IsKept p.room p.share p.sources.items p.lanes.items × (length p.sources.items ≡ length p.lanes.items) };
 }
 
 impl Parking {
-    /// No datagram waits for any of so many lanes, and there is room for so many octets.
-    pub fn new(alloc: Global, lanes: usize, room: u64) -> Result<Parking, AllocError>
-        ensures lanes { IfOk result (λ p. length p.lanes ≡ lanes) }
+    /// No datagram waits for any of the lanes, which have these sources: numbers below `remotes` for remote entities, and
+    /// `remotes` for the entity itself. There is room for so many octets.
+    pub fn new(
+        alloc: Global,
+        sources: Vec<usize>,
+        remotes: usize,
+        room: u64,
+    ) -> Result<Parking, AllocError>
+        ensures lanes { IfOk result (λ p. (length p.lanes ≡ length sources.items) × (p.sources ≡ sources.items)) }
+        ensures share { IfOk result (λ p. (p.share ≡ share_of room remotes) × (p.remotes ≡ remotes)) }
         ensures empty { IfOk result (λ p. All (λ lane. lane ≡ record { waiting = []; is_lent = false; floor = 0 }) p.lanes) }
         ensures room { IfOk result (λ p. (p.room ≡ room) × (p.arrivals ≡ 0)) }
     {
-        let mut all = Vec::with_capacity(alloc, lanes)?;
-        for _place in 0..lanes {
+        let share = (room / 4).max(room / remotes.max(1) as u64);
+        let mut all = Vec::with_capacity(alloc, sources.len())?;
+        for _place in 0..sources.len() {
             all.push(LaneParking::new(alloc))?;
         }
         Ok(Parking {
             alloc,
             lanes: all,
+            sources,
             octets: 0,
             arrivals: 0,
             room,
+            share,
+            remotes,
         })
     }
 
@@ -87,8 +103,11 @@ impl Parking {
         if number < lane.floor() || self.arrivals == u64::MAX {
             return Ok(());
         }
-        let others = self.octets - lane.octets();
-        let limit = (self.room / 4).min(self.room - others);
+        let own = lane.octets();
+        let others = self.octets - own;
+        let source = source_of(&self.sources, place);
+        let held = held_by(&self.lanes, &self.sources, source);
+        let limit = limit_of(self.room, self.octets, self.share, held, own);
         let one = Parked {
             number,
             arrival: self.arrivals,
@@ -99,6 +118,41 @@ impl Parking {
         self.octets = others + now;
         self.arrivals += 1;
         Ok(())
+    }
+
+    /// Which lane gives way to a datagram of a transaction, by its number, with so many octets, before it is parked; and how
+    /// many octets that lane keeps. `None` if there is room, or if the last ones of the datagram's own lane give way when it
+    /// is parked.
+    pub fn giving(&self, place: usize, number: u64, octets: usize) -> Option<Holder>
+        ensures { result ≡ giving place number octets self.now }
+    {
+        let rules = Rules {
+            room: self.room,
+            share: self.share,
+            remotes: self.remotes,
+        };
+        let cost = (octets as u64).saturating_add(OVERHEAD_OCTETS);
+        let lanes = self.lanes.as_slice();
+        giving_by(
+            rules,
+            lanes,
+            self.sources.as_slice(),
+            self.octets,
+            place,
+            number,
+            cost,
+        )
+    }
+
+    /// Drops a lane's last datagrams, those of the highest numbers, until the others take up so many octets at most.
+    pub fn shorten(&mut self, holder: Holder)
+        ensures { self.new ≡ replaced holder.place (shortened holder.octets) self.old }
+    {
+        if let Some(lane) = self.lanes.get(holder.place) {
+            let others = self.octets - lane.octets();
+            let now = shorten_at(&mut self.lanes, holder);
+            self.octets = others + now;
+        }
     }
 
     /// Lends the next datagram of a lane to be handed in, unless one is lent already. The error says that memory ran
@@ -220,5 +274,18 @@ fn give_way_at(lanes: &mut Vec<LaneParking>, place: usize) -> u64
 {
     let lane = &mut lanes[place];
     lane.give_way();
+    lane.octets()
+}
+
+// Shortens what waits for the lane at a place; returns how much of the room the lane takes up then.
+fn shorten_at(lanes: &mut Vec<LaneParking>, holder: Holder) -> u64
+    requires { holder.place < length lanes.old.items }
+    ensures lanes { (lane : LaneValue) → slice_get lanes.old.items holder.place ≡ Some lane
+        → lanes.new.items ≡ set lanes.old.items holder.place (shortened holder.octets lane) }
+    ensures octets { (lane : LaneValue) → slice_get lanes.old.items holder.place ≡ Some lane → result ≡ costs (shortened holder.octets lane).waiting }
+    ensures less { (lane : LaneValue) → slice_get lanes.old.items holder.place ≡ Some lane → result ≤ costs lane.waiting }
+{
+    let lane = &mut lanes[holder.place];
+    lane.shorten(holder.octets);
     lane.octets()
 }

@@ -2,7 +2,8 @@
 use crate::fault::ProgramFault;
 use crate::files::{CONFIG_OCTETS, octets_of, read_configuration};
 use crate::paths::{push_file_reason, push_path_reason};
-use entity_config::{ConfigFault, Key};
+use entity_config::ConfigFault;
+use fault_texts::{allowed_at, remedy};
 use script_io::write_whole;
 use std::alloc::{AllocError, Global};
 use std::fs::File;
@@ -208,47 +209,5 @@ fn push_outbox(text: &mut String, path: Option<&str>) -> Result<(), AllocError> 
             "{path}: can't be read or written, is in use by another program, or has a line that doesn't queue a file of this configuration"
         ),
         None => Ok(()),
-    }
-}
-
-// Which values are allowed for a key.
-pub(crate) fn allowed_at(key: Key) -> &'static str {
-    match key {
-        Key::Id => "; allowed: 0 to 9223372036854775807, in `id_octets` octets",
-        Key::IdOctets | Key::SequenceOctets => "; allowed: 1 to 8",
-        Key::First => "; allowed: 0 to 9223372036854775807",
-        Key::PutLanes => "; allowed: 1 to 32",
-        Key::ReceiveLanes => "; allowed: 1 to 8",
-        Key::Capacity => "; allowed: 1 to 1024",
-        Key::Segment => "; allowed: 256 to 1400",
-        Key::Name => "; allowed: 1 to 32 of a to z and digits",
-        Key::User =>
-            "; allowed: 1 to 16 tables [[user]], and the name of one in a table [[remote]]",
-        Key::Remote => "; allowed: up to 128 tables [[remote]]",
-        Key::Address => "; allowed: \"A.B.C.D:PORT\"",
-        Key::Checksum => "; allowed: \"modular\" and \"null\"",
-        Key::AckMilliseconds
-        | Key::NakMilliseconds
-        | Key::CheckMilliseconds
-        | Key::InactivityMilliseconds => { "; allowed: 1 to 86400000" }
-        Key::AckLimit | Key::NakLimit | Key::CheckLimit => "; allowed: 1 to 255",
-        Key::Entity | Key::Send | Key::ReceiveOne | Key::ReceiveTwo => "; allowed: a table",
-        _ => "; allowed: \"cancel\", \"suspend\", \"ignore\" and \"abandon\"",
-    }
-}
-
-// How to repair a fault of a configuration.
-pub(crate) fn remedy(fault: ConfigFault) -> &'static str {
-    match fault {
-        ConfigFault::BadToml =>
-            "; look for a missing quote or bracket, or a key that is given twice",
-        ConfigFault::UnknownKey(_) => "; look for a misspelled key",
-        ConfigFault::UnknownUser => "; add a table [[user]], or correct the name",
-        ConfigFault::TooManySources => "; allowed: 8",
-        ConfigFault::HandlerNotAllowed(_) =>
-            "; the manual of the configuration has a table of handlers",
-        ConfigFault::BadAddress =>
-            "; allowed: \"A.B.C.D:PORT\", in decimal and without leading zeros",
-        _ => "",
     }
 }

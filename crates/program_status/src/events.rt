@@ -1,9 +1,9 @@
 //! The events that a server reports.
-use crate::event_log::EventLog;
 use crate::refused::{origin_of, refused_case};
 use crate::streams::{Streams, WORD, form_of, stream_of};
 use cfdp_types::{EntityId, TxnKey};
 use event_levels::{EventKind, Level};
+use event_log::LogLines;
 use indications::{Bundle, Indication};
 use kept_events::{KeptEvents, SegmentEvent};
 use program_seats::{Asker, Seats};
@@ -16,16 +16,16 @@ use station_lines::{
     push_unparked_event, push_unsent_event,
 };
 use std::alloc::{AllocError, Global};
-use std::rt::Files;
 use std::sync::Wait;
+use std::time::Clock;
 
 /// The events that a server reports: to the clients that follow, to the log, and to clients that follow later. The
 /// events of a turn are sent at its end. An event for which memory runs out is lost, and its number is missing.
 #[derive(Drop)]
-pub struct Events<'a, R: Files> {
+pub struct Events<'a> {
     alloc: Global,
     seats: Option<&'a Seats>,
-    log: Option<EventLog<R>>,
+    log: Option<LogLines<'a>>,
     kept: KeptEvents<'a>,
     number: u64,
     /// What is sent to the clients that follow at the end of the turn.
@@ -34,13 +34,13 @@ pub struct Events<'a, R: Files> {
     octets: usize,
 }
 
-impl<'a, R: Wait + Files> Events<'a, R> {
+impl<'a> Events<'a> {
     /// Without any event so far.
     pub fn new(
         alloc: Global,
         seats: Option<&'a Seats>,
-        log: Option<EventLog<R>>,
-    ) -> Result<Events<'a, R>, AllocError> {
+        log: Option<LogLines<'a>>,
+    ) -> Result<Events<'a>, AllocError> {
         Ok(Events {
             alloc,
             seats,
@@ -63,46 +63,47 @@ impl<'a, R: Wait + Files> Events<'a, R> {
     }
 
     /// The state of the log, if there is one.
-    pub fn log_status(&self) -> Option<LogStatus> {
-        match &self.log {
-            None => None,
-            Some(log) => Some(LogStatus {
-                failing: log.is_failing(),
-                written: log.written(),
-                lost: log.lost(),
-            }),
-        }
+    pub fn log_status<R: Clock>(&self, rt: &R) -> Option<LogStatus> {
+        let Some(log) = &self.log else {
+            return None;
+        };
+        let state = log.queue().state(rt);
+        Some(LogStatus {
+            failing: state.is_failing,
+            written: state.written,
+            lost: state.lost,
+        })
     }
 
-    /// Opens the log anew, if there is one; returns whether that worked.
-    pub fn reopen_log(&mut self, rt: &R) -> Option<bool> {
-        match &mut self.log {
-            Some(log) => Some(log.reopen(rt)),
+    /// Has the log opened anew, if there is one; returns whether that worked within half a second.
+    pub fn reopen_log<R: Wait + Clock>(&self, rt: &R) -> Option<bool> {
+        match &self.log {
+            Some(log) => Some(log.queue().reopen(rt)),
             None => None,
         }
     }
 
     /// Begins a turn.
-    pub fn begin_turn(&mut self, rt: &R) {
+    pub fn begin_turn<R: Wait>(&mut self, rt: &R) {
         self.octets = 0;
         if let Some(seats) = self.seats {
             self.streams.look(rt, seats);
         }
     }
 
-    /// Ends a turn and sends its events. `now` is in milliseconds of any clock that does not go back.
-    pub fn end_turn(&mut self, rt: &R, now: u64) {
+    /// Ends a turn: its events leave for the clients that follow and for the log.
+    pub fn end_turn<R: Wait>(&mut self, rt: &R) {
         if let Some(seats) = self.seats {
             self.streams.tell(rt, seats);
         }
         if let Some(log) = &mut self.log {
-            log.flush(rt, now);
+            log.leave(rt);
         }
     }
 
     /// Sends a client the last events, at most `most`, and all events from now on: those of a level and above with
     /// their levels, or all as they are.
-    pub fn follow(
+    pub fn follow<R: Wait>(
         &mut self,
         rt: &R,
         asker: Asker,
@@ -143,7 +144,7 @@ impl<'a, R: Wait + Files> Events<'a, R> {
         let level = kind.level();
         self.octets = self.octets.saturating_add(line.len());
         if let Some(log) = &mut self.log {
-            log.push_event(level, line.as_bytes());
+            log.push(level, line.as_bytes());
         }
         self.streams.add(level, line.as_bytes());
         let _kept_where_there_is_memory = self.kept.push(level, line.as_bytes());
@@ -165,7 +166,7 @@ impl<'a, R: Wait + Files> Events<'a, R> {
 
     /// Reports a bundle's indications to the user of this name. Those of a large bundle are written to the log in
     /// pieces. The line of a segment is written only if somebody reads it.
-    pub fn receive(&mut self, rt: &R, at: Moment, user: &'a str, bundle: &Bundle) {
+    pub fn receive<R: Wait>(&mut self, rt: &R, at: Moment, user: &'a str, bundle: &Bundle) {
         for indication in bundle.inds.as_slice() {
             let head = self.next_head(at);
             match indication {
@@ -238,10 +239,10 @@ impl<'a, R: Wait + Files> Events<'a, R> {
         self.add(EventKind::Release, line);
     }
 
-    /// Reports whether the store kept a received file, and its path below the store's folder.
-    pub fn store(&mut self, at: Moment, key: TxnKey, is_kept: bool, place: Option<&str>) {
+    /// Reports whether the store kept a received file, and its path below the store's folder, or why it did not.
+    pub fn store(&mut self, at: Moment, key: TxnKey, is_kept: bool, detail: Option<&str>) {
         let head = self.next_head(at);
-        let line = stored_line(self.alloc, head, key, is_kept, place);
+        let line = stored_line(self.alloc, head, key, is_kept, detail);
         self.add(EventKind::Stored(is_kept), line);
     }
 
@@ -347,10 +348,10 @@ fn stored_line(
     head: EventHead,
     key: TxnKey,
     is_kept: bool,
-    place: Option<&str>,
+    detail: Option<&str>,
 ) -> Result<String, AllocError> {
     let mut line = String::new(alloc);
-    push_stored_event(alloc, &mut line, head, key, is_kept, place)?;
+    push_stored_event(alloc, &mut line, head, key, is_kept, detail)?;
     Ok(line)
 }
 

@@ -3,7 +3,6 @@
 
 mod count_lines;
 mod counts;
-mod event_log;
 mod events;
 mod notes;
 mod refused;
@@ -11,7 +10,6 @@ mod status;
 mod streams;
 
 pub use counts::StationCounts;
-pub use event_log::{EventLog, PENDING_OCTETS};
 pub use events::Events;
 pub use notes::{LaneNote, LaneNotes};
 pub use status::{LaneHint, Shown, push_outbox, push_status};

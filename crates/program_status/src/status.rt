@@ -137,7 +137,6 @@ fn counters_of(shown: &Shown<'_>) -> Counters {
         octets_out: totals.octets_out,
         failed_sends: totals.failed_sends,
         failed_reads: totals.failed_reads,
-        ended_reads: 0,
         foreign_datagrams: totals.foreign_datagrams,
         decode_faults: totals.decode_faults,
         refused: shown.tallies.ledger.total(),

@@ -58,8 +58,8 @@ pub struct StoredNote {
     pub key: TxnKey,
     /// Whether the store kept it.
     pub is_kept: bool,
-    /// Where the store kept it, if that is wanted and there was memory for it.
-    pub place: Option<String>,
+    /// Where the store kept it, if that is wanted, or why it did not, if there was memory for that.
+    pub detail: Option<String>,
 }
 
 /// The last file that the store was given.
@@ -70,6 +70,8 @@ pub struct LastStore {
     pub at: u64,
     /// How long the last try to store it took, in microseconds.
     pub microseconds: u64,
+    /// Why the store did not keep it, in words, if it didn't.
+    pub why: Option<&'static str>,
 }
 
 /// What the store's thread leaves for the main thread.
@@ -198,8 +200,8 @@ impl Depot {
     pub fn report<R: Wait>(&self, rt: &R, alloc: Global) -> Result<DepotReport, AllocError> {
         let mut waiting = Vec::new(alloc);
         let trays = self.trays.lock(rt);
-        for pending in trays.queue.tried() {
-            waiting.push(pending.storing)?;
+        for retry in trays.queue.tried() {
+            waiting.push(retry.file.storing)?;
         }
         Ok(DepotReport {
             under_way: trays.under_way,

@@ -12,6 +12,9 @@ pub trait StationFiles {
 
     /// The path, below the store's folder, under which it kept the last file.
     fn place(&self) -> &str;
+
+    /// Why it did not keep the last file, in words.
+    fn reason(&self) -> &'static str;
 }
 
 impl<D: Disk + Drop> StationFiles for StationStore<D> {
@@ -26,6 +29,10 @@ impl<D: Disk + Drop> StationFiles for StationStore<D> {
 
     fn place(&self) -> &str {
         self.stored_as()
+    }
+
+    fn reason(&self) -> &'static str {
+        StationStore::reason(self)
     }
 }
 
@@ -43,5 +50,9 @@ impl<D: Disk + Drop> StationFiles for SourceStore<D> {
 
     fn place(&self) -> &str {
         self.store.stored_as()
+    }
+
+    fn reason(&self) -> &'static str {
+        self.store.reason()
     }
 }

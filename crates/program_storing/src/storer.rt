@@ -112,7 +112,7 @@ impl<'a, N: Names, R: Wait + Copy + Clock, S: Filestore + StationFiles + Drop> S
                 deposit,
                 last: Some(last),
             };
-            return match self.depot.put_off(self.rt, pending, now) {
+            return match self.depot.put_off(self.rt, pending, moment(self.rt)) {
                 Ok(()) => StorerTurn::Worked,
                 Err(back) => self.keep(Work::Store(back)),
             };
@@ -171,8 +171,8 @@ impl<'a, N: Names, R: Wait + Copy + Clock, S: Filestore + StationFiles + Drop> S
         let note = self.note_since(storing, before);
         let counts = self.counts();
         self.depot.end_one(self.rt, counts);
-        if note.is_some() {
-            self.note_time(storing);
+        if let Some(note) = &note {
+            self.note_time(storing, note.is_kept);
         }
         match answer {
             Ok(done) => {
@@ -192,12 +192,17 @@ impl<'a, N: Names, R: Wait + Copy + Clock, S: Filestore + StationFiles + Drop> S
         }
     }
 
-    // Notes how long the store took for a file.
-    fn note_time(&self, storing: Storing) {
+    // Notes how long the store took for a file, and why it did not keep it.
+    fn note_time(&self, storing: Storing, is_kept: bool) {
         let last = LastStore {
             key: storing.key,
             at: wall_moment(self.rt),
             microseconds: microseconds(self.rt).saturating_sub(self.begun),
+            why: if is_kept {
+                None
+            } else {
+                Some(self.store.reason())
+            },
         };
         self.depot.note_store(self.rt, last);
     }
@@ -209,7 +214,9 @@ impl<'a, N: Names, R: Wait + Copy + Clock, S: Filestore + StationFiles + Drop> S
             return None;
         }
         let is_kept = failures == before.1;
-        let place = if is_kept && self.shows_places {
+        let detail = if !is_kept {
+            String::from_str(self.alloc, self.store.reason()).ok()
+        } else if self.shows_places {
             String::from_str(self.alloc, self.store.place()).ok()
         } else {
             None
@@ -217,7 +224,7 @@ impl<'a, N: Names, R: Wait + Copy + Clock, S: Filestore + StationFiles + Drop> S
         Some(StoredNote {
             key: storing.key,
             is_kept,
-            place,
+            detail,
         })
     }
 

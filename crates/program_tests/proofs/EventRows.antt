@@ -13,7 +13,7 @@ use Rattle.cfdp_types.specs.declared.names.FileStatus.TheVariants.{Unreported}
 use Rattle.indications.specs.declared.indication.Indication.{Indication}
 use Rattle.indications.specs.declared.indication.Indication.TheVariants as told
 use Rattle.indications.specs.declared.indication.Phase.TheVariants.{Closing}
-use Rattle.station_lines.specs.EventLines.{command_line, end_line, hold_line, indication_line, journal_full_line, put_line, reads_ended_line, refused_line, release_line, skipped_line, start_line, stored_line, unparked_line, unsent_line}
+use Rattle.station_lines.specs.EventLines.{command_line, end_line, hold_line, indication_line, journal_full_line, put_line, refused_line, release_line, skipped_line, start_line, stored_line, unparked_line, unsent_line}
 use Rattle.station_lines.specs.Members.{text_member, flag_member, number_member, hex_member, octets_member, moment_member, object_member, hexes_member}
 use Rattle.station_lines.specs.Letters.{safe_text}
 use Rattle.station_lines.specs.Shared.{first_octets}
@@ -37,11 +37,6 @@ a_start : start_line (event 1) (record { 0 = 2 }) (codes "0.1")
     ≡ codes "{\"at\":\"2026-11-26T12:00:00.000Z\",\"number\":1,\"kind\":\"start\",\"id\":2,\"version\":\"0.1\"}\n"
 unfolding digits padded_integral char_count encode_utf8 chars is_utf8 encode_with print_from escape_byte text_member flag_member number_member hex_member octets_member moment_member object_member hexes_member first_octets safe_text
 a_start = refl
-
-an_end_of_reads : reads_ended_line (event 4)
-    ≡ codes "{\"at\":\"2026-11-26T12:00:00.000Z\",\"number\":4,\"kind\":\"reads-ended\"}\n"
-unfolding digits padded_integral char_count encode_utf8 chars is_utf8 encode_with print_from escape_byte text_member flag_member number_member hex_member octets_member moment_member object_member hexes_member first_octets safe_text
-an_end_of_reads = refl
 
 an_end : end_line (event 5)
     ≡ codes "{\"at\":\"2026-11-26T12:00:00.000Z\",\"number\":5,\"kind\":\"end\"}\n"

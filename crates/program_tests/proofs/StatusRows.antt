@@ -50,7 +50,6 @@ the_entity : entity_line (record {
     octets_out = 90;
     failed_sends = 5;
     failed_reads = 6;
-    ended_reads = 14;
     foreign_datagrams = 7;
     decode_faults = 8;
     refused = 9;
@@ -62,7 +61,7 @@ the_entity : entity_line (record {
     ≡ codes "{\"kind\":\"entity\",\"id\":2,\"version\":\"0.1\",\"started\":\"2026-11-26T12:00:00.000Z\","
     ++ codes "\"now\":\"2026-11-26T12:00:05.250Z\",\"workers\":4,\"clients\":2,\"events\":17,"
     ++ codes "\"counters\":{\"datagrams_in\":12,\"octets_in\":9000,\"datagrams_out\":3,\"octets_out\":90,"
-    ++ codes "\"failed_sends\":5,\"failed_reads\":6,\"ended_reads\":14,\"foreign_datagrams\":7,\"decode_faults\":8,"
+    ++ codes "\"failed_sends\":5,\"failed_reads\":6,\"foreign_datagrams\":7,\"decode_faults\":8,"
     ++ codes "\"refused\":9,\"stored\":10,\"failed_stores\":11,\"dropped_clients\":13}}\n"
 unfolding digits padded_integral char_count encode_utf8 chars is_utf8 encode_with print_from escape_byte text_member flag_member number_member hex_member octets_member moment_member object_member hexes_member first_octets safe_text
 the_entity = refl

@@ -34,21 +34,23 @@ fn timers(rt: HostRuntime) -> Result<(), Fail> {
     Ok(())
 }
 
-// A file that couldn't be stored comes a second later, after one that wasn't tried yet.
+// A file that couldn't be stored comes a second later, after one that wasn't tried yet, and keeps its moment where another one
+// can't be stored either.
 fn is_put_off(alloc: Global) -> Result<bool, AllocError> {
     let mut queue = StoreQueue::new(alloc, 2)?;
     let is_added = queue.add(7u32).is_ok() && queue.next(100) == Some(7);
     let is_put_off = queue.put_off(7, 100).is_ok() && queue.soonest() == 1_100;
     let is_behind = queue.add(8).is_ok() && queue.soonest() == 0 && queue.next(2_000) == Some(8);
-    let is_tried = queue.tried().front() == Some(&7);
+    let keeps_its_moment = queue.put_off(8, 500).is_ok() && queue.soonest() == 1_100;
     Ok(
         is_added
             && is_put_off
             && is_behind
-            && is_tried
+            && keeps_its_moment
             && queue.next(1_099).is_none()
             && queue.next(1_100) == Some(7)
-            && queue.soonest() == u64::MAX,
+            && queue.tried().len() == 1
+            && queue.soonest() == 1_500,
     )
 }
 

@@ -42,7 +42,7 @@ fn found<R: Wait>(rt: &R, desk: &Desk, first: End, second: End) -> ([u8; 4], boo
     let end = letter_of(desk.take_line(rt));
     let again = letter_of(desk.take_line(rt));
     desk.close(rt);
-    let is_refused = !desk.leave_line(rt, Said::Nothing, None);
+    let is_refused = !desk.leave_line(rt, Said::NoMemory, None);
     (
         [before, line, end, again],
         is_left && is_refused && desk.is_closed(),

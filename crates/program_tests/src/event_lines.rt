@@ -1,7 +1,7 @@
 use cfdp_types::{EntityId, TxnKey};
 use station_lines::{
-    EventHead, Moment, SkippedEvent, push_hold_event, push_journal_full_event,
-    push_reads_ended_event, push_release_event, push_skipped_event, push_unparked_event,
+    EventHead, Moment, SkippedEvent, push_hold_event, push_journal_full_event, push_release_event,
+    push_skipped_event, push_unparked_event,
 };
 use std::alloc::{AllocError, Global};
 use std::test::*;
@@ -29,8 +29,7 @@ fn push_events(alloc: Global, text: &mut String) -> Result<(), AllocError> {
     push_release_event(alloc, text, HEAD, EntityId(7))?;
     push_unparked_event(alloc, text, HEAD, 3)?;
     push_skipped_event(alloc, text, HEAD, &SKIPPED)?;
-    push_journal_full_event(alloc, text, HEAD, "ops", KEY)?;
-    push_reads_ended_event(alloc, text, HEAD)
+    push_journal_full_event(alloc, text, HEAD, "ops", KEY)
 }
 
 #[test]

@@ -1,4 +1,4 @@
-use program_arrivals::{Arrivals, Forwarder, Sources, forwarders_of};
+use program_arrivals::{Arrivals, Forwarder, Sources, Turns, forwarders_of};
 use program_common::Common;
 use program_desk::Urgency;
 use program_lot::Lot;
@@ -16,16 +16,17 @@ pub struct WayIn<'a, R> {
 
 impl<'a, R: Copy> WayIn<'a, R> {
     /// A forwarder for each worker that `tallies` counts, for datagrams from these sources. `others` says how soon the
-    /// main thread has to handle a step for which no client waits. Datagrams are parked in the lot, if there is one.
+    /// main thread has to handle a step for which no client waits. Datagrams of one lane keep their order by `turns`, and
+    /// are parked in the lot, if there is one.
     pub fn new<N: Names>(
         common: &Common<'a, N, R>,
-        tallies: &'a Tallies,
+        (tallies, turns): (&'a Tallies, &'a Turns),
         others: Urgency,
         sources: Sources,
         lot: Option<&'a Lot>,
     ) -> Result<WayIn<'a, R>, AllocError> {
         Ok(WayIn {
-            arrivals: Arrivals::new(common.alloc, common.socket, common.desk, sources),
+            arrivals: Arrivals::new(common.alloc, common.socket, common.desk, sources, turns),
             forwarders: forwarders_of(common, tallies, others, lot)?,
         })
     }

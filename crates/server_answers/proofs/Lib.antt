@@ -1,1 +1,2 @@
+mod OutcomeRows
 mod Rows

@@ -1,10 +1,11 @@
 //! Says why the server ends too early, in a line below the fault.
 use entity_config::ConfigFault;
 use fault_places::{line_within, place_among, place_of, push_value};
+use outbox_file::{BadLine, bad_line_in};
 use program_control::{ControlFault, ControlSocket, push_control_reason};
 use program_numbers::push_numbers_reason;
 use program_start::{
-    ProgramFault, folder_of, push_bind_reason, push_folder_reason, push_link_reason,
+    ProgramFault, folder_of, load_file, push_bind_reason, push_folder_reason, push_link_reason,
     push_path_reason, push_place,
 };
 use station_config::{
@@ -34,7 +35,12 @@ pub fn push_cause<R: Net + Files>(
             text,
             path.as_str(),
         ),
-        (ProgramFault::Outbox, _, Some(path)) => push_outbox_reason(rt, alloc, text, path.as_str()),
+        (ProgramFault::Outbox, _, Some(path)) => push_outbox_reason(
+            rt,
+            alloc,
+            text,
+            (path.as_str(), sending.outbox_repair),
+        ),
         _ => Ok(()),
     }
 }
@@ -68,7 +74,7 @@ fn push_outbox_reason<R: Net + Files>(
     rt: &R,
     alloc: Global,
     text: &mut String,
-    path: &str,
+    (path, repairs): (&str, bool),
 ) -> Result<(), AllocError> {
     let before = text.len();
     push_link_reason(rt, text, path)?;
@@ -88,12 +94,37 @@ fn push_outbox_reason<R: Net + Files>(
         _ => push_folder_reason(rt, text, folder_of(path))?,
     }
     if text.len() == before {
+        push_line_reason(rt, alloc, text, path, repairs)?;
+    }
+    if text.len() == before {
         writeln!(
             text,
             "{path}: can't be read or written, is in use by another program, or has a line that doesn't queue a file of this configuration"
         )?;
     }
     Ok(())
+}
+
+// Adds which line of an outbox's file can't be parsed, if there is one, and how a start goes on without it. One that is to
+// do so could not keep a copy of the file.
+fn push_line_reason<R: Files>(
+    rt: &R,
+    alloc: Global,
+    text: &mut String,
+    path: &str,
+    repairs: bool,
+) -> Result<(), AllocError> {
+    let Ok(octets) = load_file(rt, alloc, path) else {
+        return Ok(());
+    };
+    match bad_line_in(alloc, octets.as_slice())? {
+        Some(_) if repairs => writeln!(text, "{path}.bad: the file can't be copied there"),
+        Some(BadLine { line, offset }) => writeln!(
+            text,
+            "{path}:{line}: this line, at octet {offset}, can't be parsed; `outbox_repair = true` in `[sending]` goes on without it"
+        ),
+        None => Ok(()),
+    }
 }
 
 /// Adds a line that says what is wrong with a station's file, where, what was found there, and what is allowed.
@@ -225,47 +256,49 @@ fn push_found(
     }
 }
 
-/// Adds a note for each path that the server can't use from the start, though it goes on: the folders and the log.
-pub fn push_path_notes<R: Files>(
+/// Adds a note for each folder that a server can't use from the start, though it goes on.
+pub fn push_folder_notes<R: Files>(
     rt: &R,
     alloc: Global,
     text: &mut String,
     settings: &Settings,
 ) -> Result<(), AllocError> {
-    push_folder_note(rt, alloc, text, settings.store.folder.as_str())?;
-    if let Some(folder) = &settings.record.folder {
-        push_folder_note(rt, alloc, text, folder.as_str())?;
-    }
-    match &settings.log.file {
-        Some(path) => push_log_note(rt, text, path.as_str()),
-        None => Ok(()),
-    }
-}
-
-// Adds a note if a path isn't a folder.
-fn push_folder_note<R: Files>(
-    rt: &R,
-    alloc: Global,
-    text: &mut String,
-    folder: &str,
-) -> Result<(), AllocError> {
     let mut reason = String::new(alloc);
-    push_folder_reason(rt, &mut reason, folder)?;
-    if !reason.is_empty() {
-        text.push_str("note: ")?;
-        text.push_str(reason.as_str())?;
+    push_folder_reason(rt, &mut reason, settings.store.folder.as_str())?;
+    push_note(text, reason.as_str())?;
+    if let Some(folder) = &settings.record.folder {
+        reason.clear();
+        push_folder_reason(rt, &mut reason, folder.as_str())?;
+        push_note(text, reason.as_str())?;
     }
     Ok(())
 }
 
-// Adds a note that a log can't be appended to, if that shows.
-fn push_log_note<R: Files>(rt: &R, text: &mut String, path: &str) -> Result<(), AllocError> {
+// Adds a reason as a note, if there is one.
+fn push_note(text: &mut String, reason: &str) -> Result<(), AllocError> {
+    if !reason.is_empty() {
+        text.push_str("note: ")?;
+        text.push_str(reason)?;
+    }
+    Ok(())
+}
+
+/// Adds why a server can't append to its log, if it has one and that shows: its folder isn't there, or it isn't a plain
+/// file.
+pub fn push_log_reason<R: Files>(
+    rt: &R,
+    text: &mut String,
+    settings: &Settings,
+) -> Result<(), AllocError> {
+    let Some(path) = &settings.log.file else {
+        return Ok(());
+    };
+    let path = path.as_str();
     match fs::metadata(rt, path) {
-        Ok(found) if found.is_dir() => writeln!(text, "note: {path}: is a folder"),
-        Err(error) if error.kind() != ErrorKind::NotFound => {
-            text.push_str("note: ")?;
-            push_path_reason(text, path, &error)
-        }
-        _ => Ok(()),
+        Ok(found) if found.is_dir() => writeln!(text, "{path}: is a folder"),
+        Ok(found) if !found.is_file() => writeln!(text, "{path}: not a plain file"),
+        Ok(_) => Ok(()),
+        Err(error) if error.kind() != ErrorKind::NotFound => push_path_reason(text, path, &error),
+        Err(_) => push_folder_reason(rt, text, folder_of(path)),
     }
 }

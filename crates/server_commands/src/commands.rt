@@ -7,13 +7,13 @@ use event_levels::Level;
 use program_desk::Said;
 use program_seats::Asker;
 use program_start::ProgramFault;
-use server_answers::{push_bad_command, push_entity_refusal, push_no_memory, push_traced};
+use server_answers::{
+    push_bad_command, push_entity_refusal, push_no_memory, push_outcome, push_traced,
+};
 use server_kept::push_withdrawn;
 use server_lines::{Command, SendCommand, Tuning};
-use server_links::{hold, release};
-use server_outcomes::push_outcome;
 use server_requests::Working;
-use server_status::{Shows, answer_status};
+use server_status::{Shows, answer_status, hold, release};
 use shared_entity::{Entity, EntityRefusal};
 use shared_lanes::Names;
 use std::alloc::{AllocError, Global};
@@ -23,7 +23,7 @@ use std::time::Clock;
 
 /// Whether the server goes on after a command.
 #[derive(Clone, Copy, Debug, PartialEq, Eq)]
-pub enum Next {
+pub(crate) enum Next {
     GoesOn,
     /// The client that asked follows from then on, after the last events, so many at most; from a level on, if one is
     /// asked for.
@@ -60,7 +60,7 @@ fn trace<N: Names, R: Wait + Copy>(
 }
 
 /// Does what a line says, and adds the reply.
-pub fn obey<N: Names, R: Wait + Clock + Files + AllocGlobal + Copy + Drop>(
+pub(crate) fn obey<N: Names, R: Wait + Clock + Files + AllocGlobal + Copy + Drop>(
     work: &mut Working<'_, '_, N, R>,
     said: Said,
     asker: Option<Asker>,
@@ -73,8 +73,17 @@ pub fn obey<N: Names, R: Wait + Clock + Files + AllocGlobal + Copy + Drop>(
             goes_on(push_outcome(work.alloc, text, &outcome))
         }
         Said::Send(send, size) => goes_on(queue_known(work, send, size, text)),
-        Said::Nothing => goes_on(push_bad_command(text)),
+        Said::Bad(why) => goes_on(push_bad_line(text, why.as_slice(), work.settings.explains)),
         Said::NoMemory => goes_on(push_no_memory(text)),
+    }
+}
+
+// Adds that a line isn't a command; with `explains` also why.
+fn push_bad_line(text: &mut String, why: &[u8], explains: bool) -> Result<(), AllocError> {
+    push_bad_command(text)?;
+    match str::from_utf8(why) {
+        Ok(why) if explains && !why.is_empty() => writeln!(text, "{why}"),
+        _ => Ok(()),
     }
 }
 

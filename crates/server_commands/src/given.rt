@@ -12,7 +12,7 @@ use std::sync::Wait;
 use std::time::Clock;
 
 /// The words of a command to be reported; empty if that isn't wanted, it changes nothing, or memory ran out.
-pub fn words_of<N: Names, R: Wait + Clock + Files + AllocGlobal + Copy + Drop>(
+pub(crate) fn words_of<N: Names, R: Wait + Clock + Files + AllocGlobal + Copy + Drop>(
     work: &Working<'_, '_, N, R>,
     said: &Said,
 ) -> Vec<u8> {
@@ -24,7 +24,7 @@ pub fn words_of<N: Names, R: Wait + Clock + Files + AllocGlobal + Copy + Drop>(
         Said::Command(command) => command_words(work.alloc, config, command),
         Said::Put(put, _) => put_words(work.alloc, config, put),
         Said::Send(send, _) => send_words(work.alloc, config, send),
-        Said::Nothing | Said::NoMemory => Ok(Vec::new(work.alloc)),
+        Said::Bad(_) | Said::NoMemory => Ok(Vec::new(work.alloc)),
     };
     match words {
         Ok(words) => words,
@@ -34,7 +34,7 @@ pub fn words_of<N: Names, R: Wait + Clock + Files + AllocGlobal + Copy + Drop>(
 
 /// Why the reply to a line is a `read fault`, if it is one and that is to be said. A `send` to an entity that isn't
 /// configured is refused for that first.
-pub fn unread_of<N: Names, R: Wait + Clock + Files + AllocGlobal + Copy + Drop>(
+pub(crate) fn unread_of<N: Names, R: Wait + Clock + Files + AllocGlobal + Copy + Drop>(
     work: &Working<'_, '_, N, R>,
     said: &Said,
 ) -> Option<Unread> {
@@ -52,7 +52,7 @@ pub fn unread_of<N: Names, R: Wait + Clock + Files + AllocGlobal + Copy + Drop>(
 
 /// Reports a command by its words, if there are any, with the reply, and why its file can't be read, if that is to be
 /// said.
-pub fn report_command<R: Wait + Clock + Files>(
+pub(crate) fn report_command<R: Wait + Clock + Files>(
     reports: &mut Reports<'_, R>,
     words: &[u8],
     asker: Option<Asker>,

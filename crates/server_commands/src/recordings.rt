@@ -11,7 +11,7 @@ use std::sync::Wait;
 use std::time::Clock;
 
 /// Leaves the transactions that have ended to be recorded.
-pub fn record_ended<N: Names, R: Wait + Clock + Files + AllocGlobal + Copy + Drop>(
+pub(crate) fn record_ended<N: Names, R: Wait + Clock + Files + AllocGlobal + Copy + Drop>(
     work: &mut Working<'_, '_, N, R>,
 ) {
     let entity = work.station.entity();

@@ -3,8 +3,8 @@
 use program_desk::moment;
 use server_answers::push_bad_command;
 use server_lines::Tuning;
-use server_links::{hold_all, limit, release_all, release_for};
 use server_requests::Working;
+use server_status::{hold_all, limit, release_all, release_for};
 use shared_lanes::Names;
 use std::alloc::AllocError;
 use std::rt::Files;

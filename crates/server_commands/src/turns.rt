@@ -4,9 +4,9 @@ use program_desk::moment;
 use program_station::{REST_MS, Station};
 use program_status::StationCounts;
 use program_storing::StoredNote;
-use server_links::end_windows;
 use server_reports::Reports;
 use server_requests::Working;
+use server_status::end_windows;
 use shared_entity::Entity;
 use shared_lanes::Names;
 use std::rt::Files;
@@ -22,11 +22,11 @@ const LAST_STORE_MS: u64 = 10_000;
 // The longest sleep of the main thread, in milliseconds.
 const LONGEST_SLEEP_MS: u64 = 60_000;
 
-// The same if events are reported: once a second it looks at refusals, and tries again to write a log that failed.
+// The same if events are reported: once a second it looks at refusals.
 const LONGEST_SLEEP_WITH_EVENTS_MS: u64 = 1_000;
 
 /// Notes the rest of the steps that were left at the desk. Returns whether there were any.
-pub fn settle<N: Names, R: Wait + Clock + Files + AllocGlobal + Copy + Drop>(
+pub(crate) fn settle<N: Names, R: Wait + Clock + Files + AllocGlobal + Copy + Drop>(
     work: &mut Working<'_, '_, N, R>,
 ) -> bool {
     work.station.settle_left(work.shared.desk, work.steps)
@@ -34,7 +34,7 @@ pub fn settle<N: Names, R: Wait + Clock + Files + AllocGlobal + Copy + Drop>(
 
 /// Goes on with files of the outbox, timers and PDUs of files, notes which files were stored, and lets events
 /// leave. Returns whether there was any work.
-pub fn turn<N: Names, R: Wait + Clock + Files + AllocGlobal + Copy + Drop>(
+pub(crate) fn turn<N: Names, R: Wait + Clock + Files + AllocGlobal + Copy + Drop>(
     work: &mut Working<'_, '_, N, R>,
     now: u64,
 ) -> bool {
@@ -71,7 +71,7 @@ fn settle_counts<N: Names, R: Wait + Copy>(
 
 /// Sleeps until something comes, or until there is work without that. If users' bundles wait for a client, sleeps
 /// only for a short time.
-pub fn rest<N: Names, R: Wait + Clock + Files + AllocGlobal + Copy + Drop>(
+pub(crate) fn rest<N: Names, R: Wait + Clock + Files + AllocGlobal + Copy + Drop>(
     work: &Working<'_, '_, N, R>,
     now: u64,
     waits: bool,
@@ -96,8 +96,8 @@ fn longest_sleep(waits: bool, has_readers: bool) -> u64 {
     }
 }
 
-/// Notes which files of the outbox have ended, reports the server's end, and leaves the file of numbers.
-pub fn end<N: Names, R: Wait + Clock + Files + AllocGlobal + Copy + Drop>(
+/// Notes which files of the outbox have ended, and reports the server's end.
+pub(crate) fn end<N: Names, R: Wait + Clock + Files + AllocGlobal + Copy + Drop>(
     work: &mut Working<'_, '_, N, R>,
 ) {
     record_ended(work);
@@ -105,8 +105,7 @@ pub fn end<N: Names, R: Wait + Clock + Files + AllocGlobal + Copy + Drop>(
     work.outbox.begun.look_again(true);
     work.note_ends(now);
     work.outbox.settle_last();
-    work.audience.reports.end(now);
-    work.numbers.leave(work.rt);
+    work.audience.reports.end();
 }
 
 // Reports what became of files that were stored since; returns whether there were any.
@@ -120,15 +119,15 @@ fn report_stored<N: Names, R: Wait + Clock + Files + Copy>(
             StoredNote {
                 key,
                 is_kept,
-                place,
+                detail,
             },
         ) = station.take_stored()
         else {
             break;
         };
         has_stored = true;
-        match place {
-            Some(place) => reports.store(key, is_kept, Some(place.as_str())),
+        match detail {
+            Some(detail) => reports.store(key, is_kept, Some(detail.as_str())),
             None => reports.store(key, is_kept, None),
         }
     }
@@ -136,7 +135,7 @@ fn report_stored<N: Names, R: Wait + Clock + Files + Copy>(
 }
 
 /// Lets the file being stored come to its end, for some seconds at most, and notes what became of it.
-pub fn end_storing<N: Names, R: Wait + Clock + Files + AllocGlobal + Copy + Drop>(
+pub(crate) fn end_storing<N: Names, R: Wait + Clock + Files + AllocGlobal + Copy + Drop>(
     work: &mut Working<'_, '_, N, R>,
 ) {
     let (rt, depot) = (work.rt, work.shared.depot);

@@ -2,6 +2,7 @@
 #![tactic(auto)]
 
 mod command;
+mod faults;
 mod looking;
 mod operands;
 mod options;
@@ -11,4 +12,5 @@ mod sending;
 mod tuning;
 
 pub use command::{Command, PutCommand, SendCommand, Tuning, command_of};
+pub use faults::line_fault;
 pub use looking::only_looks;

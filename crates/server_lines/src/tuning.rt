@@ -10,19 +10,19 @@ use line_words::{Words, decimal, number_of};
 // The greatest limit, in octets a second.
 const MOST_OCTETS_A_SECOND: u64 = 1_000_000_000;
 
-// The seconds of a day.
-const A_DAY: u64 = 86_400;
+/// The seconds of a day.
+pub(crate) const A_DAY: u64 = 86_400;
 
-// A number from 1 to a limit.
-fn positive_of(word: &[u8], most: u64) -> Option<u64>
+/// A number from 1 to a limit.
+pub(crate) fn positive_of(word: &[u8], most: u64) -> Option<u64>
     ensures { result ≡ positive_of most word.now }
 {
     let number = decimal(word, most)?;
     if number == 0 { None } else { Some(number) }
 }
 
-// A limit in octets a second, or none for `off`.
-fn rate_in(word: &[u8]) -> Option<Option<u64>>
+/// A limit in octets a second, or none for `off`.
+pub(crate) fn rate_in(word: &[u8]) -> Option<Option<u64>>
     ensures { result ≡ rate_in word.now }
 {
     if word == b"off".as_slice() {

@@ -9,14 +9,13 @@ use program_status::StationCounts;
 use server_recording::Watched;
 use std::alloc::{AllocError, Global};
 use std::mem;
-use std::rt::Files;
 use std::sync::Wait;
 use std::time::Clock;
 use user_queues::UserPort;
 
 /// The ports of a server's users, and those who read what the users receive.
 #[derive(Drop)]
-pub struct Audience<'a, R: Files> {
+pub struct Audience<'a, R> {
     rt: &'a R,
     alloc: Global,
     config: &'a Config,
@@ -31,7 +30,7 @@ pub struct Audience<'a, R: Files> {
     pub counts: Option<StationCounts>,
 }
 
-impl<'a, R: Wait + Clock + Files> Audience<'a, R> {
+impl<'a, R: Wait + Clock> Audience<'a, R> {
     /// The users of the configuration in `reports`, by their ports.
     pub fn new(
         rt: &'a R,

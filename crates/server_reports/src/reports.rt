@@ -14,7 +14,6 @@ use release::VERSION;
 use server_lines::PutCommand;
 use station_lines::{CommandEvent, LogStatus, Moment, PutEvent, SkippedEvent, UnsentEvent};
 use std::alloc::{AllocError, Global};
-use std::rt::Files;
 use std::sync::Wait;
 use std::time::Clock;
 
@@ -23,13 +22,13 @@ const REFUSALS_MS: u64 = 1_000;
 
 /// What a server has noted of its lanes, and what it reports, if clients or a log may read it.
 #[derive(Drop)]
-pub struct Reports<'a, R: Files> {
+pub struct Reports<'a, R> {
     rt: &'a R,
     alloc: Global,
     pub(crate) config: &'a Config,
     tallies: &'a Tallies,
     pub notes: LaneNotes,
-    events: Option<Events<'a, R>>,
+    events: Option<Events<'a>>,
     /// The moment of a turn by the wall clock, once it was looked at.
     turn_moment: Option<Moment>,
     /// When refusals are reported next, by the runtime's clock.
@@ -41,14 +40,14 @@ pub struct Reports<'a, R: Files> {
     unparked_seen: u64,
 }
 
-impl<'a, R: Wait + Clock + Files> Reports<'a, R> {
+impl<'a, R: Wait + Clock> Reports<'a, R> {
     /// Nothing was noted so far.
     pub fn new(
         rt: &'a R,
         alloc: Global,
         config: &'a Config,
         tallies: &'a Tallies,
-        events: Option<Events<'a, R>>,
+        events: Option<Events<'a>>,
         lot: &'a Lot,
     ) -> Result<Reports<'a, R>, AllocError> {
         Ok(Reports {
@@ -107,14 +106,14 @@ impl<'a, R: Wait + Clock + Files> Reports<'a, R> {
     /// The state of the log, if there is one.
     pub fn log_status(&self) -> Option<LogStatus> {
         match &self.events {
-            Some(events) => events.log_status(),
+            Some(events) => events.log_status(self.rt),
             None => None,
         }
     }
 
-    /// Opens the log anew, if there is one; returns whether that worked.
-    pub fn reopen_log(&mut self) -> Option<bool> {
-        match &mut self.events {
+    /// Has the log opened anew, if there is one; returns whether that worked within half a second.
+    pub fn reopen_log(&self) -> Option<bool> {
+        match &self.events {
             Some(events) => events.reopen_log(self.rt),
             None => None,
         }
@@ -129,12 +128,12 @@ impl<'a, R: Wait + Clock + Files> Reports<'a, R> {
     }
 
     /// Reports what was refused last and that the server ends, and lets its last events leave.
-    pub fn end(&mut self, now: u64) {
+    pub fn end(&mut self) {
         self.refusals();
         let at = self.now();
         if let Some(events) = &mut self.events {
             events.end(at);
-            events.end_turn(self.rt, now);
+            events.end_turn(self.rt);
         }
     }
 
@@ -261,11 +260,12 @@ impl<'a, R: Wait + Clock + Files> Reports<'a, R> {
         at
     }
 
-    /// Reports what became of a file that the store was given, and where it was kept, if that is to be shown.
-    pub fn store(&mut self, key: TxnKey, is_kept: bool, place: Option<&str>) {
+    /// Reports what became of a file that the store was given, and where it was kept, if that is to be shown, or why it
+    /// was not kept.
+    pub fn store(&mut self, key: TxnKey, is_kept: bool, detail: Option<&str>) {
         let at = self.now();
         if let Some(events) = &mut self.events {
-            events.store(at, key, is_kept, place);
+            events.store(at, key, is_kept, detail);
         }
     }
 
@@ -276,7 +276,7 @@ impl<'a, R: Wait + Clock + Files> Reports<'a, R> {
             self.refusals();
         }
         if let Some(events) = &mut self.events {
-            events.end_turn(self.rt, now);
+            events.end_turn(self.rt);
         }
     }
 

@@ -29,5 +29,6 @@ pub(crate) fn last_store<R: Wait>(rt: &R, depot: &Depot) -> Option<StoreStatus> 
         seq: last.key.seq,
         at: Moment(last.at),
         microseconds: last.microseconds,
+        why: last.why,
     })
 }

@@ -15,7 +15,6 @@ use shared_lanes::Names;
 use station_config::PeerLanes;
 use station_lines::{Moment, StoringStatus};
 use std::alloc::{AllocError, Global};
-use std::rt::Files;
 use std::sync::Wait;
 use std::time::Clock;
 use user_queues::UserPort;
@@ -33,7 +32,7 @@ pub struct Shows<'s> {
 }
 
 /// Replies with the lines of a status, or that memory ran out.
-pub fn answer_status<N: Names, R: Wait + Clock + Files + Copy>(
+pub fn answer_status<N: Names, R: Wait + Clock + Copy>(
     rt: &R,
     alloc: Global,
     entity: &Entity<N, R>,
@@ -60,7 +59,7 @@ pub fn answer_status<N: Names, R: Wait + Clock + Files + Copy>(
 }
 
 // Adds the lines of a status, with the ports of the users.
-fn push_shown<N: Names, R: Wait + Clock + Files + Copy>(
+fn push_shown<N: Names, R: Wait + Clock + Copy>(
     rt: &R,
     alloc: Global,
     entity: &Entity<N, R>,

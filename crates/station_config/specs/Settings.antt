@@ -6,7 +6,7 @@ use Rattle.event_levels.specs.Levels.{level_named}
 use Rattle.event_levels.specs.declared.level.Level.{Level}
 use Rattle.event_levels.specs.declared.level.Level.TheVariants.{Info}
 use Rattle.station_config.specs.Station.{has, has_word, number_in, number_of, path_from, truth_of, value_at, word_of}
-use Rattle.station_config.specs.declared.keys.TheConstants.{ABANDON_FULL, BIND, EXISTING, FOLDER, HOLD, LAYOUT, LOG_COMMANDS, LOG_FILE, LOG_LEVEL, MODE, NUMBERS, OUTBOX, PARK, PEER_HELD, PEER_LANES, PEER_RATE, RATE, RECORD_FOLDER, RECORD_MOST, RECORD_WHICH, RETRY, SOCKET, SOURCES, STATUS_SOCKET, WORKERS}
+use Rattle.station_config.specs.declared.keys.TheConstants.{ABANDON_FULL, BIND, EXISTING, FOLDER, HOLD, LAYOUT, LOG_COMMANDS, LOG_FILE, LOG_LEVEL, MODE, NUMBERS, OUTBOX, OUTBOX_REPAIR, PARK, PEER_HELD, PEER_LANES, PEER_RATE, RATE, RECORD_FOLDER, RECORD_MOST, RECORD_WHICH, RETRY, SOCKET, SOURCES, STATUS_SOCKET, WORKERS}
 use Rattle.station_config.specs.declared.settings.ControlSettings.{ControlSettings}
 use Rattle.station_config.specs.declared.settings.Lanes.{Lanes}
 use Rattle.station_config.specs.declared.settings.Lanes.TheVariants as lanes
@@ -55,6 +55,7 @@ pub record StoreSays (folder : List ℕ) (top : Members) (s : StoreSettings) : T
 pub record SendingSays (file folder : List ℕ) (top : Members) (s : SendingSettings) : Type 0 where
   pub numbers : option_map string_bytes s.numbers ≡ beside_at file folder (codes ".numbers") (value_at NUMBERS.0.now NUMBERS.1.now top)
   pub outbox : option_map string_bytes s.outbox ≡ beside_at file folder (codes ".outbox") (value_at OUTBOX.0.now OUTBOX.1.now top)
+  pub repair : s.outbox_repair ≡ truth_of OUTBOX_REPAIR.2 (value_at OUTBOX_REPAIR.0.now OUTBOX_REPAIR.1.now top)
   pub rate : s.rate ≡ number_of RATE.2 (value_at RATE.0.now RATE.1.now top)
 
 -- what is said of where clients command it

@@ -45,7 +45,7 @@ pub type KeyRow = (
 );
 
 /// The keys of a station's own tables, table by table, in the order in which they are read.
-pub const KEYS: [KeyRow; 22] = [
+pub const KEYS: [KeyRow; 23] = [
     BIND,
     WORKERS,
     PARK,
@@ -58,6 +58,7 @@ pub const KEYS: [KeyRow; 22] = [
     RETRY,
     NUMBERS,
     OUTBOX,
+    OUTBOX_REPAIR,
     RATE,
     SOCKET,
     MODE,
@@ -179,6 +180,14 @@ pub const OUTBOX: KeyRow = (
     Kind::Beside,
     &[".outbox"],
     "the file that keeps what waits in the outbox and what is under way from there",
+);
+
+pub const OUTBOX_REPAIR: KeyRow = (
+    "sending",
+    "outbox_repair",
+    Kind::Truth { otherwise: false },
+    &[],
+    "goes on without the lines of that file that can't be parsed; a copy of it is kept beside it, with `.bad` appended",
 );
 
 pub const RATE: KeyRow = (

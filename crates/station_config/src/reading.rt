@@ -7,8 +7,9 @@ ghost use Rattle.toml.specs.View.{items_view, table_view, view};
 use crate::fault::StationFault;
 use crate::keys::{
     ABANDON_FULL, BIND, EXISTING, FOLDER, HOLD, KEYS, LAYOUT, LOG_COMMANDS, LOG_FILE, LOG_LEVEL,
-    MODE, NUMBERS, OUTBOX, PARK, PEER_HELD, PEER_LANES, PEER_RATE, RATE, RECORD_FOLDER,
-    RECORD_MOST, RECORD_WHICH, REMOTE_KEYS, RETRY, SOCKET, SOURCES, STATUS_SOCKET, WORKERS,
+    MODE, NUMBERS, OUTBOX, OUTBOX_REPAIR, PARK, PEER_HELD, PEER_LANES, PEER_RATE, RATE,
+    RECORD_FOLDER, RECORD_MOST, RECORD_WHICH, REMOTE_KEYS, RETRY, SOCKET, SOURCES, STATUS_SOCKET,
+    WORKERS,
 };
 use crate::paths::path_from;
 use crate::settings::{
@@ -182,6 +183,7 @@ fn sending_in(
     Ok(SendingSettings {
         numbers: beside_at(alloc, value_of(top, &NUMBERS), file, folder, ".numbers")?,
         outbox: beside_at(alloc, value_of(top, &OUTBOX), file, folder, ".outbox")?,
+        outbox_repair: truth_of(value_of(top, &OUTBOX_REPAIR), OUTBOX_REPAIR.2),
         rate: number_of(value_of(top, &RATE), RATE.2),
     })
 }

@@ -37,6 +37,8 @@ pub struct SendingSettings {
     pub numbers: Option<String>,
     /// The file that keeps what waits in the outbox and what is under way from there.
     pub outbox: Option<String>,
+    /// Whether the start goes on without the lines of that file that can't be parsed.
+    pub outbox_repair: bool,
     /// How many octets a second may leave for the files to all remote entities without a rate of their own, 1 to
     /// 1,000,000,000; 0 without a limit.
     pub rate: u64,
@@ -158,6 +160,7 @@ impl Settings {
             sending: SendingSettings {
                 numbers: None,
                 outbox: None,
+                outbox_repair: false,
                 rate: 0,
             },
             control: None,

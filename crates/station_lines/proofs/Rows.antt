@@ -11,7 +11,7 @@ use Rattle.station_lines.specs.Moments.{moment_text}
 use Rattle.station_lines.specs.Members.{number_member, octets_member, text_member, flag_member, hex_member, moment_member}
 use Rattle.station_lines.specs.CountLines.{delivered_line, ended_line, store_line}
 use Rattle.station_lines.specs.StatusLines.{heard_members, log_line, missing_members, storing_line, why_members}
-use Rattle.station_lines.specs.EventLines.{asker_members, stored_line, end_line}
+use Rattle.station_lines.specs.EventLines.{asker_members, stored_line, lost_line, end_line}
 
 -- ---- moments
 
@@ -65,6 +65,10 @@ logs : log_line (record { failing = false; written = 17; lost = 0 })
 unfolding digits print_from escape_byte text_member flag_member number_member safe_text chars encode_utf8
 logs = refl
 
+lost : lost_line (record { 0 = 0 }) 3 ≡ codes "{\"at\":\"1970-01-01T00:00:00.000Z\",\"kind\":\"lost\",\"count\":3}\n"
+unfolding digits print_from escape_byte padded_integral char_count encode_utf8 moment_member text_member number_member safe_text chars
+lost = refl
+
 storing : storing_line (record { source = record { 0 = 9 }; seq = 4; since = record { 0 = 0 }; why = None })
     ≡ codes "{\"kind\":\"storing\",\"source\":9,\"seq\":4,\"since\":\"1970-01-01T00:00:00.000Z\"}\n"
 unfolding digits print_from escape_byte padded_integral char_count encode_utf8 moment_member text_member number_member safe_text chars
@@ -84,7 +88,7 @@ delivered : delivered_line (record { end = Sender; files = 2; octets = 900 })
 unfolding digits print_from escape_byte text_member number_member safe_text chars encode_utf8
 delivered = refl
 
-store : store_line (record { source = record { 0 = 9 }; seq = 4; at = record { 0 = 0 }; microseconds = 250 })
+store : store_line (record { source = record { 0 = 9 }; seq = 4; at = record { 0 = 0 }; microseconds = 250; why = None })
     ≡ codes "{\"kind\":\"store\",\"source\":9,\"seq\":4,\"at\":\"1970-01-01T00:00:00.000Z\",\"microseconds\":250}\n"
 unfolding digits print_from escape_byte padded_integral char_count encode_utf8 moment_member text_member number_member safe_text chars
 store = refl
@@ -112,3 +116,9 @@ stores : stored_line (record { at = record { 0 = 0 }; number = 2 }) (record { so
     ≡ codes "{\"at\":\"1970-01-01T00:00:00.000Z\",\"number\":2,\"kind\":\"stored\",\"source\":1,\"seq\":41,\"status\":\"retained\",\"as\":\"a.1\"}\n"
 unfolding digits print_from escape_byte padded_integral char_count encode_utf8 moment_member text_member number_member safe_text chars
 stores = refl
+
+-- it did not keep one
+rejects : stored_line (record { at = record { 0 = 0 }; number = 3 }) (record { source = record { 0 = 1 }; seq = 42 }) false (Some (codes "no space is left"))
+    ≡ codes "{\"at\":\"1970-01-01T00:00:00.000Z\",\"number\":3,\"kind\":\"stored\",\"source\":1,\"seq\":42,\"status\":\"rejected\",\"why\":\"no space is left\"}\n"
+unfolding digits print_from escape_byte padded_integral char_count encode_utf8 moment_member text_member number_member safe_text chars
+rejects = refl

@@ -1,8 +1,9 @@
 -- Meaning. The lines of a status that show what a server counts where that is asked for.
 use Rattle.std.specs.Prelude.{ℕ, List, ◌++◌, codes}
+use Rattle.std.specs.Option.{option_copied}
 use Rattle.json.specs.Token.{Token}
 use Rattle.station_lines.specs.Members.{line_of, moment_member, number_member, text_member}
-use Rattle.station_lines.specs.StatusLines.{role_name}
+use Rattle.station_lines.specs.StatusLines.{role_name, why_members}
 use Rattle.station_lines.specs.declared.status.DeliveredStatus.{DeliveredStatus}
 use Rattle.station_lines.specs.declared.status.EndedStatus.{EndedStatus}
 use Rattle.station_lines.specs.declared.status.StoreStatus.{StoreStatus}
@@ -37,4 +38,4 @@ store_members s =
 
 -- the line of the last file that was given to the store
 abbrev pub store_line : StoreStatus → List ℕ
-store_line s = line_of (store_members s)
+store_line s = line_of (store_members s ++ why_members (option_copied s.why))

@@ -1,5 +1,5 @@
 -- Meaning. The lines of events.
-use Rattle.std.specs.Prelude.{ℕ, Bool, true, if◌then◌else◌, List, [], ◌++◌, Option, Some, None, codes}
+use Rattle.std.specs.Prelude.{ℕ, Bool, true, false, if◌then◌else◌, List, [], ◌++◌, Option, Some, None, codes}
 use Rattle.std.specs.Option.{option_copied}
 use Rattle.cfdp_types.specs.declared.key.EntityId.{EntityId}
 use Rattle.cfdp_types.specs.declared.key.TxnKey.{TxnKey}
@@ -11,6 +11,7 @@ use Rattle.answer_texts.specs.ToldTexts.{indication_name, phase_name, status_nam
 use Rattle.json.specs.Token.{Token}
 use Rattle.station_lines.specs.Members.{flag_member, text_member, number_member, octets_member, moment_member, hexes_member, line_of}
 use Rattle.station_lines.specs.Shared.{key_members, finished_members, case_members, datagram_members, class_number}
+use Rattle.station_lines.specs.declared.moment.Moment.{Moment}
 use Rattle.station_lines.specs.declared.event.EventHead.{EventHead}
 use Rattle.station_lines.specs.declared.event.IndicationEvent.{IndicationEvent}
 use Rattle.station_lines.specs.declared.event.PutEvent.{PutEvent}
@@ -110,16 +111,17 @@ unsent_line head unsent = line_of (head_members head (codes "unsent") ++ unsent_
 abbrev pub stored_status : Bool → FileStatus
 stored_status is_retained = if is_retained then Retained else Rejected
 
--- the file's path in the store, if that is shown
-abbrev pub place_members : Option (List ℕ) → List Token
-place_members None = []
-place_members (Some place) = text_member (codes "as") place
+-- the path in the store of a file that it kept, or why it didn't keep one, if that is known
+abbrev pub detail_members : Bool → Option (List ℕ) → List Token
+detail_members is_retained None = []
+detail_members true (Some path) = text_member (codes "as") path
+detail_members false (Some why) = text_member (codes "why") why
 
 -- the line of a store's answer
 abbrev pub stored_line : EventHead → TxnKey → Bool → Option (List ℕ) → List ℕ
-stored_line head key is_retained place =
+stored_line head key is_retained detail =
     line_of (head_members head (codes "stored") ++ (key_members key
-    ++ (text_member (codes "status") (status_name (stored_status is_retained)) ++ place_members place)))
+    ++ (text_member (codes "status") (status_name (stored_status is_retained)) ++ detail_members is_retained detail)))
 
 -- the line of refusals of one kind
 abbrev pub refused_line : EventHead → RefusedCase → List ℕ
@@ -186,15 +188,16 @@ journal_full_members user key = text_member (codes "user") user ++ key_members k
 abbrev pub journal_full_line : EventHead → List ℕ → TxnKey → List ℕ
 journal_full_line head user key = line_of (head_members head (codes "journal-full") ++ journal_full_members user key)
 
+-- the line that a log has after events that were lost
+abbrev pub lost_line : Moment → ℕ → List ℕ
+lost_line at count =
+    line_of (moment_member (codes "at") at ++ (text_member (codes "kind") (codes "lost") ++ number_member (codes "count") count))
+
 -- ---- events that have no further members
 
 -- the line of such an event
 abbrev pub plain_line : EventHead → List ℕ → List ℕ
 plain_line head kind = line_of (head_members head kind)
-
--- the line of a worker that stopped reading
-abbrev pub reads_ended_line : EventHead → List ℕ
-reads_ended_line head = plain_line head (codes "reads-ended")
 
 -- the line of a server's end
 abbrev pub end_line : EventHead → List ℕ

@@ -53,9 +53,8 @@ traffic_members c =
 abbrev pub trouble_members : Counters → List Token
 trouble_members c =
     number_member (codes "failed_sends") c.failed_sends ++ (number_member (codes "failed_reads") c.failed_reads
-    ++ (number_member (codes "ended_reads") c.ended_reads
     ++ (number_member (codes "foreign_datagrams") c.foreign_datagrams
-    ++ number_member (codes "decode_faults") c.decode_faults)))
+    ++ number_member (codes "decode_faults") c.decode_faults))
 
 -- the counters of what became of it
 abbrev pub outcome_members : Counters → List Token

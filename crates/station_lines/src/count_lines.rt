@@ -4,7 +4,7 @@ ghost use Rattle.station_lines.specs.CountLines.{delivered_line, delivered_membe
 
 use crate::line::Line;
 use crate::status::{DeliveredStatus, EndedStatus, StoreStatus};
-use crate::status_lines::role_name;
+use crate::status_lines::{role_name, why_members};
 use station_names::{kind, member};
 use std::alloc::{AllocError, Global};
 
@@ -58,6 +58,7 @@ pub fn push_store(alloc: Global, text: &mut String, store: &StoreStatus) -> Resu
 {
     let mut line = Line::begin(alloc)?;
     store_members(&mut line, store)?;
+    why_members(&mut line, store.why)?;
     line.end(text)
 }
 

@@ -1,13 +1,14 @@
 //! The lines of events. Followers get each after the word `event` and a space, which these functions don't write.
 ghost use Rattle.std.specs.Prelude.{◌≡◌, ◌++◌, OnErr, OnOk, string_bytes};
 ghost use Rattle.std.specs.Option.{option_copied};
-ghost use Rattle.station_lines.specs.EventLines.{reason_members, head_members, start_line, indication_line, said_members, metadata_members, put_line, put_head, put_file, queued_members, unsent_line, unsent_members, place_members, stored_line, stored_status, refused_line, hold_line, planned_hold_line, release_line, about_remote_line, unparked_line, skipped_line, skipped_members, command_line, command_members, asker_members, journal_full_line, journal_full_members, reads_ended_line, end_line, plain_line};
+ghost use Rattle.station_lines.specs.EventLines.{reason_members, head_members, start_line, indication_line, said_members, metadata_members, put_line, put_head, put_file, queued_members, unsent_line, unsent_members, detail_members, stored_line, stored_status, refused_line, hold_line, planned_hold_line, release_line, about_remote_line, unparked_line, skipped_line, skipped_members, command_line, command_members, asker_members, journal_full_line, journal_full_members, lost_line, end_line, plain_line};
 
 use crate::event::{CommandEvent, EventHead, IndicationEvent, PutEvent, SkippedEvent, UnsentEvent};
 use crate::line::Line;
 use crate::members::{
     RefusedCase, case_members, class_number, datagram_members, finished_members, key_members,
 };
+use crate::moment::Moment;
 use answer_texts::{indication_name, phase_name, status_name};
 use cfdp_types::{EntityId, FileStatus, Messages, Octets, TxnKey};
 use indications::Indication;
@@ -208,34 +209,39 @@ fn reason_members(line: &mut Line, reason: Option<&str>) -> Result<(), AllocErro
     }
 }
 
-/// Adds the line of a store's result: whether it kept the file of a transaction, and its path below the folder, if that
-/// is shown.
+/// Adds the line of a store's result: whether it kept the file of a transaction, and, if that is known, its path below
+/// the folder, or why it did not keep it.
 pub fn push_stored_event(
     alloc: Global,
     text: &mut String,
     head: EventHead,
     key: TxnKey,
     is_retained: bool,
-    place: Option<&str>,
+    detail: Option<&str>,
 ) -> Result<(), AllocError>
     ensures added { OnOk result (string_bytes text.new
-        ≡ string_bytes text.old ++ stored_line head key is_retained (option_copied place.entry)) }
+        ≡ string_bytes text.old ++ stored_line head key is_retained (option_copied detail.entry)) }
     ensures kept { OnErr result (string_bytes text.new ≡ string_bytes text.old) }
 {
     let mut line = Line::begin(alloc)?;
     head_members(&mut line, head, kind::STORED)?;
     key_members(&mut line, key)?;
     line.text(member::STATUS, status_name(stored_status(is_retained)))?;
-    place_members(&mut line, place)?;
+    detail_members(&mut line, is_retained, detail)?;
     line.end(text)
 }
 
-fn place_members(line: &mut Line, place: Option<&str>) -> Result<(), AllocError>
-    ensures { OnOk result (line.new ≡ line.old ++ place_members (option_copied place.entry)) }
+fn detail_members(
+    line: &mut Line,
+    is_retained: bool,
+    detail: Option<&str>,
+) -> Result<(), AllocError>
+    ensures { OnOk result (line.new ≡ line.old ++ detail_members is_retained (option_copied detail.entry)) }
 {
-    match place {
+    match detail {
         None => Ok(()),
-        Some(place) => line.text(member::AS, place),
+        Some(path) if is_retained => line.text(member::AS, path),
+        Some(why) => line.text(member::WHY, why),
     }
 }
 
@@ -432,16 +438,21 @@ fn journal_full_members(line: &mut Line, user: &str, key: TxnKey) -> Result<(), 
     key_members(line, key)
 }
 
-/// Adds the line of a worker that stopped reading.
-pub fn push_reads_ended_event(
+/// Adds the line that a log has after events that were lost: how many. It is no event, and has no number.
+pub fn push_lost_line(
     alloc: Global,
     text: &mut String,
-    head: EventHead,
+    at: Moment,
+    count: u64,
 ) -> Result<(), AllocError>
-    ensures added { OnOk result (string_bytes text.new ≡ string_bytes text.old ++ reads_ended_line head) }
+    ensures added { OnOk result (string_bytes text.new ≡ string_bytes text.old ++ lost_line at count) }
     ensures kept { OnErr result (string_bytes text.new ≡ string_bytes text.old) }
 {
-    push_plain_event(alloc, text, head, kind::READS_ENDED)
+    let mut line = Line::begin(alloc)?;
+    line.moment(member::AT, at)?;
+    line.text(member::KIND, kind::LOST)?;
+    line.number(member::COUNT, count)?;
+    line.end(text)
 }
 
 /// Adds the line of a server's end.

@@ -18,7 +18,7 @@ pub use count_lines::{push_delivered, push_ended, push_store};
 pub use event::{CommandEvent, EventHead, IndicationEvent, PutEvent, SkippedEvent, UnsentEvent};
 pub use event_lines::{
     push_command_event, push_end_event, push_hold_event, push_indication_event,
-    push_journal_full_event, push_planned_hold_event, push_put_event, push_reads_ended_event,
+    push_journal_full_event, push_lost_line, push_planned_hold_event, push_put_event,
     push_refused_event, push_release_event, push_skipped_event, push_start_event,
     push_stored_event, push_unparked_event, push_unsent_event,
 };

@@ -111,24 +111,6 @@ impl Line {
         self.number(fourth.0, fourth.1)
     }
 
-    // Five numbers, each under its name.
-    pub(crate) fn five_numbers(
-        &mut self,
-        first: (&str, u64),
-        second: (&str, u64),
-        third: (&str, u64),
-        fourth: (&str, u64),
-        fifth: (&str, u64),
-    ) -> Result<(), AllocError>
-        ensures { OnOk result (self.new ≡ self.old
-            ++ (number_member first.entry.0.now first.entry.1 ++ (number_member second.entry.0.now second.entry.1
-            ++ (number_member third.entry.0.now third.entry.1 ++ (number_member fourth.entry.0.now fourth.entry.1
-            ++ number_member fifth.entry.0.now fifth.entry.1))))) }
-    {
-        self.number(first.0, first.1)?;
-        self.four_numbers(second, third, fourth, fifth)
-    }
-
     // Octets as text, or in hex where they are not UTF-8.
     #[tactic(auto, using(crate::proofs::Texts::octets_facts))]
     pub(crate) fn octets(&mut self, name: &str, octets: &[u8]) -> Result<(), AllocError>

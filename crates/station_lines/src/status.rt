@@ -39,8 +39,6 @@ pub struct Counters {
     pub failed_sends: u64,
     /// Reads from the socket that failed.
     pub failed_reads: u64,
-    /// Workers that stopped reading: always 0, because none does.
-    pub ended_reads: u64,
     /// Datagrams from an address that isn't in the configuration.
     pub foreign_datagrams: u64,
     /// Datagrams that aren't PDUs.
@@ -235,6 +233,8 @@ pub struct StoreStatus {
     pub at: Moment,
     /// How long storing it took, in microseconds.
     pub microseconds: u64,
+    /// Why it isn't kept, in words, if it isn't.
+    pub why: Option<&'static str>,
 }
 
 /// A remote entity whose receiving lanes the sending lanes here don't divide, so files wait for each other.

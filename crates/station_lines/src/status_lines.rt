@@ -88,10 +88,9 @@ fn traffic_members(line: &mut Line, counters: &Counters) -> Result<(), AllocErro
 fn trouble_members(line: &mut Line, counters: &Counters) -> Result<(), AllocError>
     ensures { OnOk result (line.new ≡ line.old ++ trouble_members counters.now) }
 {
-    line.five_numbers(
+    line.four_numbers(
         (member::FAILED_SENDS, counters.failed_sends),
         (member::FAILED_READS, counters.failed_reads),
-        (member::ENDED_READS, counters.ended_reads),
         (member::FOREIGN_DATAGRAMS, counters.foreign_datagrams),
         (member::DECODE_FAULTS, counters.decode_faults),
     )
@@ -364,7 +363,7 @@ fn storing_members(line: &mut Line, storing: &StoringStatus<'_>) -> Result<(), A
 }
 
 // What hindered the last try, if there was one.
-fn why_members(line: &mut Line, why: Option<&str>) -> Result<(), AllocError>
+pub(crate) fn why_members(line: &mut Line, why: Option<&str>) -> Result<(), AllocError>
     ensures { OnOk result (line.new ≡ line.old ++ why_members (option_copied why.entry)) }
 {
     match why {

@@ -59,4 +59,5 @@ pub const SKIPPED: &str = "skipped";
 
 pub const JOURNAL_FULL: &str = "journal-full";
 
-pub const READS_ENDED: &str = "reads-ended";
+/// Of a line of the log alone: how many events before it were lost.
+pub const LOST: &str = "lost";

@@ -37,8 +37,6 @@ pub const FAILED_SENDS: &str = "failed_sends";
 
 pub const FAILED_READS: &str = "failed_reads";
 
-pub const ENDED_READS: &str = "ended_reads";
-
 pub const FOREIGN_DATAGRAMS: &str = "foreign_datagrams";
 
 pub const DECODE_FAULTS: &str = "decode_faults";

@@ -107,6 +107,20 @@ impl<D: Disk + Drop> StationStore<D> {
         }
     }
 
+    /// Why the file that was prepared or deposited last isn't kept, in words.
+    pub fn reason(&self) -> &'static str {
+        match self.fault {
+            None => "its name can't be that of a file here; a slash needs the layout tree",
+            Some(Fault::Exists) => "no name is free for it",
+            Some(Fault::Failed) =>
+                "a folder is in its place, or a file in that of its folder, or the system refuses it",
+            Some(Fault::MayPass) => match self.hindrance() {
+                Some(why) => why.words(),
+                None => "the system refuses it for now",
+            },
+        }
+    }
+
     /// Forgets the ready file, because another file isn't tried. A fault means that memory ran out.
     pub(crate) fn forget(&mut self, fault: Option<Fault>)
         ensures { self.new ≡ forgotten fault self.old }

@@ -30,7 +30,7 @@ names_differ : has_twice (map (λ head. head.name) all_heads) ≡ false
 unfolding told_rows count_rows
 names_differ = refl
 
-how_many : length all_heads ≡ 48
+how_many : length all_heads ≡ 47
 unfolding told_rows count_rows
 how_many = refl
 

@@ -67,8 +67,6 @@ told_rows =
     Entity (at_counter (codes "failed_sends")) ∷
     told_row (counter (codes "cfdp_failed_reads_total") (codes "Reads from the socket that failed."))
     Entity (at_counter (codes "failed_reads")) ∷
-    told_row (counter (codes "cfdp_ended_reads_total") (codes "Workers that stopped reading because their socket failed."))
-    Entity (at_counter (codes "ended_reads")) ∷
     told_row (counter (codes "cfdp_foreign_datagrams_total") (codes "Datagrams from addresses that the configuration does not have."))
     Entity (at_counter (codes "foreign_datagrams")) ∷
     told_row (counter (codes "cfdp_decode_faults_total") (codes "Datagrams that are no PDU."))

@@ -12,7 +12,7 @@ use station_names::member;
 pub(crate) struct Told(pub(crate) Family, pub(crate) Kind, pub(crate) Place);
 
 /// The families whose numbers are in lines.
-pub(crate) const TOLD: [Told; 36] = [
+pub(crate) const TOLD: [Told; 35] = [
     Told(
         Gauge(
             "cfdp_entity_info",
@@ -71,14 +71,6 @@ pub(crate) const TOLD: [Told; 36] = [
         ),
         Entity,
         Counted(member::FAILED_READS),
-    ),
-    Told(
-        Counter(
-            "cfdp_ended_reads_total",
-            "Workers that stopped reading because their socket failed.",
-        ),
-        Entity,
-        Counted(member::ENDED_READS),
     ),
     Told(
         Counter(

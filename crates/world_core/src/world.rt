@@ -6,7 +6,7 @@ use entity_routing::{
     Place, Request, WorldEvent, key_of_pdu, params_of_put, place_of_key, place_of_own, place_of_pdu,
 };
 use indications::Bundle;
-use lane_table::{Done, Refused};
+use lane_table::{Done, Glance, Refused};
 use std::alloc::{AllocError, Global};
 use std::marker::Model;
 use txn_events::{Event, What};
@@ -42,6 +42,7 @@ impl World {
     ghost use Rattle.world_table.specs.Histories.{Happening, takes, held_for};
     ghost use Rattle.entity_routing.specs.Routes.{route, key_place, routed_key, routed_own, routed_request, routed_reading, routed_put, put_params};
     ghost use Rattle.entity_parts.specs.FirstLanes.{first_lane};
+    ghost use Rattle.world_users.specs.Posts.{glance_at};
     ghost use Rattle.world_core.specs.Routed.{IsRoutedTo};
     ghost use Rattle.entity_parts.specs.Asking.{MayRequest};
     ghost use Rattle.world_core.specs.Worlds.{StandsAfter, MayCome, IsAnswered, IsUnread, IsFront, IsImage, history_after};
@@ -133,6 +134,14 @@ impl World {
             Ok(image) => Ok(image),
             Err(why) => Err(EntityRefusal::Lane(Refused { why, echo: None })),
         }
+    }
+
+    /// A glance at the transaction that a lane of a user runs or ran last; it is no event. None if there is none such, or
+    /// no such lane.
+    pub fn glance(&self, user: usize, lane: usize) -> Result<Option<Glance>, AllocError>
+        ensures { IfOk result (λ glance. glance ≡ glance_at self.now.posts user lane) }
+    {
+        self.users.glance(user, lane)
     }
 
     // Handles an event as `step` does; the contract is stated over the users alone.

@@ -1,10 +1,12 @@
 -- Of the code. A user of an entity of one thread: the user's queue of indications, and the user's lanes.
-use Rattle.std.specs.Prelude.{◌≡◌, ℕ, ◌<◌, List, [], ◌∷◌, ◌++◌, length, None, Some, slice_get, slice_set, ◌⊎◌}
+use Rattle.std.specs.Prelude.{◌≡◌, ℕ, ◌<◌, List, [], ◌∷◌, ◌++◌, length, Option, None, Some, option_and_then, slice_get, slice_set, ◌⊎◌}
 use Rattle.indications.specs.declared.bundle.Bundle.{Bundle}
 use Rattle.txn_events.specs.declared.event.Event.{Event}
 use Rattle.lane_table.specs.declared.done.Done.{Done}
 use Rattle.lane_table.specs.declared.refused.Refused.{Refused}
+use Rattle.lane_table.specs.Glances.{glance_of}
 use Rattle.lane_table.specs.Lane.{State}
+use Rattle.lane_table.specs.declared.glance.Glance.{Glance}
 use Rattle.lane_table.specs.Keeping.{Keeps, bundle_of}
 use Rattle.lane_table.specs.Steps.{refusal_at, stepped, IsDone}
 use Rattle.txn_lane.specs.Stepping.{RanOut, WasFull}
@@ -71,3 +73,13 @@ pub record IsNoStepOf (old : Post) (lane : ℕ) (event : Event) (new : Post) (re
   pub is : slice_get old.lanes lane ≡ Some state
   pub why : IsWhyRefused state old.queue event refused
   pub same : new ≡ old
+
+-- ---- what lanes show
+
+-- the glance at a lane of the user, None where it has run nothing, or where there is none such
+abbrev pub glance_in : Post → ℕ → Option Glance
+glance_in post lane = option_and_then glance_of (slice_get post.lanes lane)
+
+-- the glance at a lane, by the numbers of its user and of the lane
+abbrev pub glance_at : List Post → ℕ → ℕ → Option Glance
+glance_at posts user lane = option_and_then (λ post. glance_in post lane) (slice_get posts user)

@@ -1,6 +1,8 @@
 use crate::stepping::step_lane;
 use cfdp_types::{Image, PutRequest, TxnKey};
 use indications::Bundle;
+use lane_table::Glance;
+use std::alloc::AllocError;
 use std::marker::Model;
 use txn_events::{Event, Refusal};
 use txn_lane::{Done, Lane, Refused};
@@ -29,7 +31,7 @@ impl UserPart {
     ghost use Rattle.txn_events.specs.declared.event.Event.TheVariants.{Put};
     ghost use Rattle.user_queues.specs.Queue.{with_front};
     ghost use Rattle.lane_table.specs.Steps.{IsKeyed, image_of};
-    ghost use Rattle.world_users.specs.Posts.{MayStep, IsStepOf, IsNoStepOf, IsWhyRefused};
+    ghost use Rattle.world_users.specs.Posts.{MayStep, IsStepOf, IsNoStepOf, IsWhyRefused, glance_in};
 
     /// A user with a queue and lanes.
     pub fn new(queue: ListQueue, lanes: Vec<Lane>) -> UserPart
@@ -82,5 +84,14 @@ impl UserPart {
             → IfErr result (λ why. IsWhy (image_of state key stamp) why) }
     {
         self.lanes[lane].image(key, stamp)
+    }
+    /// A glance at the transaction that a lane runs or ran last. None if there is none such, or no such lane.
+    pub fn glance(&self, lane: usize) -> Result<Option<Glance>, AllocError>
+        ensures { IfOk result (λ glance. glance ≡ glance_in self.now lane) }
+    {
+        match self.lanes.get(lane) {
+            Some(lane) => lane.glance(),
+            None => Ok(None),
+        }
     }
 }

@@ -1,6 +1,8 @@
 use crate::user_part::UserPart;
 use cfdp_types::{Image, PutRequest, TxnKey};
 use indications::Bundle;
+use lane_table::Glance;
+use std::alloc::AllocError;
 use std::marker::Model;
 use txn_events::{Event, Refusal};
 use txn_lane::{Done, Refused};
@@ -27,6 +29,7 @@ impl Users {
     ghost use Rattle.txn_lane.specs.Transactions.{IsWhy};
     ghost use Rattle.txn_events.specs.declared.event.Event.TheVariants.{Put};
     ghost use Rattle.world_table.specs.Histories.{Happening, held_for};
+    ghost use Rattle.world_users.specs.Posts.{glance_at};
     ghost use Rattle.world_users.specs.Standing.{
       Layout,
       IsLaneIn,
@@ -94,5 +97,14 @@ impl Users {
             → IfErr result (λ why. IsWhy (image_of (lane_in layout history user lane) key stamp) why) }
     {
         self.parts[user].image(lane, key, stamp)
+    }
+    /// A glance at the transaction that a lane of a user runs or ran last. None if there is none such, or no such lane.
+    pub fn glance(&self, user: usize, lane: usize) -> Result<Option<Glance>, AllocError>
+        ensures { IfOk result (λ glance. glance ≡ glance_at self.now user lane) }
+    {
+        match self.parts.get(user) {
+            Some(part) => part.glance(lane),
+            None => Ok(None),
+        }
     }
 }

@@ -18,7 +18,7 @@ function shown(e) {
   try { return told(e); } catch (fault) { return "an event that can't be shown"; }
 }
 // How much an event matters: 0 a piece of a file, 1 what goes as it should, 2 what somebody should look at.
-const WARNINGS = ["unsent", "refused", "unparked", "journal-full", "reads-ended"];
+const WARNINGS = ["unsent", "refused", "unparked", "journal-full"];
 function levelOf(e) {
   if (e.kind === "stored") return e.status === "retained" ? 1 : 2;
   if (e.kind !== "indication") return WARNINGS.includes(e.kind) ? 2 : 1;

@@ -5,5 +5,5 @@ use Rattle.cfdp_serve.proofs.threads.fn.serve_beside.scope.Goals as goal
 pub serve_lines-ended-requires-send-N : goal.serve_lines-ended-requires-send-N
 serve_lines-ended-requires-send-N g c κs within = param_send 0 g.row.N c.requires.1.1.1.1.1.1.1.0
 
-pub serve_lines-ended-requires-send-I : goal.serve_lines-ended-requires-send-I
-serve_lines-ended-requires-send-I g c κs within = param_send 3 g.row.I c.requires.1.1.1.1.1.1.1.2
+pub serve_lines-ended-requires-send-B : goal.serve_lines-ended-requires-send-B
+serve_lines-ended-requires-send-B g c κs within = param_send 3 g.row.B c.requires.1.1.1.1.1.1.1.2
