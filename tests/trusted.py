@@ -98,7 +98,7 @@ reading, the fixed header, the first fault: pdu_reading/Reading FixedHeader Firs
 laws of octets and PDUs: pdu_codec/Laws
 configurations and their limits; what a text means; faults by number: config_reading/Values Texts Walk Reads Faults
 the reference configuration, and settings: entity_config/Reference Settings
-the table at which reading a configuration stops, the line of a key; what makes little sense: fault_places/Spots Scans config_notes/Notes
+the table at which reading a configuration stops, the line of a key; what makes little sense: fault_texts/Spots Scans server_answers/Notes
 indications by kind; words of both sides; the last indication: indications/Kinds Words
 lane lists, and the side that a transaction shows: indications/LaneLists
 what a `WordReader` keeps: marks, offsets, the words after which it stands: ind_words/Marks Offsets Reading
@@ -128,10 +128,10 @@ how far a transaction is: lane_traces/Traces
 to which lane an event goes, or why to none: entity_routing/Places Routes RouteLaws
 the lanes of a configuration in their first state; what a user may ask: entity_parts/FirstLanes Asking
 histories of the entity of one thread, and the laws: world_table/Histories HistoryLaws
-users after a history; what `World` answers; events where the configuration says: world_users/Standing world_core/Opening Worlds Answering Routed
+users after a history; what `World` answers; events where the configuration says: world_core/Standing Opening Worlds Answering Routed
 laws of every run, by keys; of every script: world_laws/EntityLaws script_laws/ScriptLaws
 a session round an entity: what calls do, what is kept, answers as numbers, the Put of an order, who may send: cfdp_session/Steps Kept Flat Orders Turning
-lanes in turn; timers of which some operations are still to be done: pump_turns/Turns kept_timers/Running
+lanes in turn; timers of which some operations are still to be done: cfdp_session/Turns Running
 when a configuration's fault is explained: fault_texts/Explained
 the entity for C: what a handle owns, what calls do to it, codes and names, faults in words: cfdp_c/Owned Calls Codes Names Explaining
 the list of timers that run: timer_list/Timers
@@ -142,7 +142,7 @@ files that are stored over a part: whole_files/Wholes PartSteps
 what the file of numbers covers; its text; what it has after a power cut; its laws: number_file/Rounds Texts Files RoundLaws LanePlaces program_numbers/Held
 what an outbox's file says; its text; what it has after a power cut: outbox_file/Books Texts Files
 what an outbox and its file say together: held_outbox/Held
-how a word is written in a command; the words of commands that change something: command_words/Words Commands
+how a word is written in a command; the words of commands that change something: server_lines/Words CommandWords
 file names that a folder store takes; stores in memory and in a folder; faults: file_stores/Names MemoryStore FolderStore Faults
 where a store with folders puts a file, what it has ready, and the effect of a deposit: station_store/Paths Stations Sources
 what a lane's lock guards, and a step of it: shared_lanes/Held
@@ -154,21 +154,21 @@ printed lines: indications; answers and refusals: answer_texts/ToldTexts AnswerT
 what a line of a script says: script_lines/Commands
 the lines of a journal's events, how they are read back, and the script of a whole journal: journal_scripts/Rows Laws journal_recording/Recording
 the first lines of a recording, its text, its pieces and the names of files; when a transaction began: program_recorder/Headings Recordings Pieces Names Sights
-what a PDU says in words: pdu_words/Words
+what a PDU says in words: script_explained/Words
 a reader's lines, what a writer gains, how the end of a run is reported: script_io/Lines Output Ending
 what a line does to a script's session, what it prints, and a whole script: script_replay/Sessions Texts Run
-how many transactions ended and how, and which files came whole: ended_counts/Counts Files Whole
+how many transactions ended and how, and which files came whole: program_tallies/Counts Files Whole
 how much each event matters, and which of the last ones are kept and shown: event_levels/Levels Events kept_events/Rings
 what a line of a server's commands asks for, and what of it is left at the desk: server_lines/Commands program_desk/Says
 options and words of the programs; numbers on a command line: program_words/Lines Numbers
 turns of files and timers, files to be stored; what becomes of a refusal: program_agenda/Turns Stores Fates program_station/Obstacles
 whose datagrams are taken: program_arrivals/Hearing
 the pace of what leaves, and its law: program_agenda/Paces PaceLaws
-datagrams that wait for their lane, their room, and the laws of both: program_parking/Lanes Parkings parking_laws/ParkingLaws program_lot/Waits
-which number begins next toward an entity, and its law; with how many lanes files don't wait: program_lineup/Lineups Counts lineup_laws/LineupLaws
+datagrams that wait for their lane, their room, and the laws of both: program_parking/Lanes Parkings ParkingLaws program_lot/Waits
+which number begins next toward an entity, and its law; with how many lanes files don't wait: program_lineup/Lineups Counts LineupLaws
 where a PDU goes, how far its data reaches; when a step's timers expire: program_udp/Peers Reaches program_desk/Steps
 what a program prints for a fault: program_start/Faults
-what a program replies to a command line by which nothing starts: program_replies/Replies
+what a program replies to a command line by which nothing starts: program_words/Replies
 what the server prints of an answer, of what became of a request, and of a configuration that makes little sense; exit status and progress of a put: server_answers/Answers Outcomes Remarks cfdp_send/Ended Progress
 which paths a Unix socket can have: unix_sockets/Addresses
 the texts of configurations that tests read: test_configs/Texts

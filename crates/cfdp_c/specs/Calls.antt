@@ -20,7 +20,7 @@ use Rattle.cfdp_session.specs.declared.flat.FlatImage.{FlatImage}
 use Rattle.cfdp_session.specs.Flat.{flat_bundle, flat_done}
 use Rattle.cfdp_session.specs.Steps.{IsLoaded, IsMissing, IsOpened, IsQuiet, IsTaken, IsTicked, IsTold, IsUnsettled, running_in}
 use Rattle.cfdp_session.specs.Kept.{timers_of}
-use Rattle.kept_timers.specs.Running.{is_before, settled}
+use Rattle.cfdp_session.specs.Running.{is_before, settled}
 use Rattle.cfdp_c.specs.declared.codes.TheConstants.{OK, REFUSED, NOTHING, CLOSED, OPEN, NO_MEMORY, BAD_CONFIG, NO_ROOM, UNKNOWN, MESSAGE_TOO_LONG, TOO_MANY_MESSAGES}
 use Rattle.cfdp_types.specs.declared.limits.TheConstants.{MESSAGES, MESSAGE_OCTETS}
 use Rattle.cfdp_c.specs.Codes.{place_text, put_code}

@@ -1,6 +1,6 @@
 //! Time, for callers that leave timers to the library, and whose turn it is to send.
 ghost use Rattle.std.specs.Prelude.{◌≡◌, option_map};
-ghost use Rattle.pump_turns.specs.Turns.{next};
+ghost use Rattle.cfdp_session.specs.Turns.{next};
 ghost use Rattle.cfdp_session.specs.Flat.{flat_own};
 ghost use Rattle.cfdp_c.specs.Calls.{Asked, Awaits, IsGiven, Ticks};
 

@@ -14,7 +14,7 @@ use ctl_folder::{
     make_folders, mark_at, path_being_read, take_back, was_sent,
 };
 use ctl_views::{Event, Page, Step, Tone, Transaction, UnderWay, read_event, read_under_way};
-use ctl_watch::{AtEnd, Given, Mark, Sight, Turn, at_end};
+use ctl_folder::{AtEnd, Given, Mark, Sight, Turn, at_end};
 use ctl_words::{SendCommand, WatchWords, has_long_name, send_command};
 use std::alloc::{AllocError, Global};
 use std::env::Env;

@@ -2,7 +2,7 @@
 use crate::explaining::explain;
 use crate::words::{ReplayWords, replay_help, replay_version, replay_words};
 use entity_config::{Config, ConfigFault};
-use program_replies::{asked_text, fault_of};
+use program_words::{asked_text, fault_of};
 use program_start::{ProgramFault, load_text, print, tell_fault};
 use program_words::{WordsFault, line_of};
 use script_explained::explain_to_end;

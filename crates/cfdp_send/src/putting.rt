@@ -6,7 +6,7 @@ use cfdp_types::{PutFault, PutRequest};
 use entity_config::{Config, Setting};
 use program_arrivals::Sources;
 use program_numbers::{HeldNumbers, Puts};
-use program_replies::asked_text;
+use program_words::asked_text;
 use program_start::{
     ProgramFault, Started, load_config, load_file, push_explanation, tell_explanation, tell_fault,
 };

@@ -2,7 +2,7 @@
 #![tactic(auto)]
 
 use cfdp_serve::{Streams, serve};
-use program_replies::tell_words_fault;
+use program_words::tell_words_fault;
 use program_start::RuntimeFiles;
 use program_words::line_of;
 use std::io;

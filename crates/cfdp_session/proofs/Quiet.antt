@@ -5,8 +5,8 @@ use Rattle.std.proofs.Math.Seq.{drop-length}
 use Rattle.cfdp_types.specs.declared.timer_op.TimerOp.{TimerOp}
 use Rattle.timer_list.proofs.ListLemmas.{without_due-none}
 use Rattle.timer_list.specs.Timers.{first_due, without_due}
-use Rattle.kept_timers.specs.declared.kept.KeptTimers.{KeptTimers}
-use Rattle.kept_timers.specs.Running.{after_all, running, settled}
+use Rattle.cfdp_session.specs.declared.kept.KeptTimers.{KeptTimers}
+use Rattle.cfdp_session.specs.Running.{after_all, running, settled}
 
 pub quiet : (ops : List TimerOp) (now : ℕ) (old new : KeptTimers) → first_due now (running ops old) ≡ None
     → new ≡ record (settled ops old) { list = without_due now (running ops old); clock = Some now } → running ops new ≡ running ops old

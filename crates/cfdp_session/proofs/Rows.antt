@@ -8,7 +8,7 @@ use Rattle.cfdp_types.specs.declared.key.TxnKey.{TxnKey}
 use Rattle.pdu_values.specs.declared.pdu.Direction.TheVariants.{TowardReceiver, TowardSender}
 use Rattle.entity_routing.specs.declared.world_event.WorldEvent.TheVariants as events
 use Rattle.timer_list.specs.declared.armed.Armed.{Armed}
-use Rattle.pump_turns.specs.Turns.{TurnsValue}
+use Rattle.cfdp_session.specs.Turns.{TurnsValue}
 use Rattle.cfdp_session.specs.Steps.{expiry, left_after}
 use Rattle.cfdp_session.specs.Turning.{turned}
 use Rattle.cfdp_types.specs.declared.names.Class.TheVariants.{Two}

@@ -3,8 +3,8 @@ use Rattle.std.specs.Prelude.{◌≡◌, ℕ, List, Option}
 use Rattle.std.proofs.Common.{subst, sym, ap, ◌∙◌}
 use Rattle.entity_routing.specs.declared.world_event.WorldEvent.{WorldEvent}
 use Rattle.timer_list.specs.declared.armed.Armed.{Armed}
-use Rattle.kept_timers.specs.declared.kept.KeptTimers.{KeptTimers}
-use Rattle.kept_timers.specs.Running.{waiting}
+use Rattle.cfdp_session.specs.declared.kept.KeptTimers.{KeptTimers}
+use Rattle.cfdp_session.specs.Running.{waiting}
 use Rattle.cfdp_session.specs.declared.session.Session.{Session}
 use Rattle.cfdp_session.specs.Steps.{IsTold}
 

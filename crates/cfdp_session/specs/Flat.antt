@@ -39,7 +39,7 @@ use Rattle.cfdp_session.specs.declared.flat.FlatRemote.{FlatRemote}
 use Rattle.cfdp_session.specs.declared.flat.FlatTransaction.{FlatTransaction}
 use Rattle.config_reading.specs.Values.{ConfigValue}
 use Rattle.entity_routing.specs.Places.{lanes_of}
-use Rattle.world_users.specs.Posts.{Post, glance_at}
+use Rattle.world_core.specs.Posts.{Post, glance_at}
 use Rattle.config_reading.specs.declared.remote.Remote.{Remote}
 use Rattle.cfdp_session.specs.Kept.{Last, pdus_of, parts_of}
 

@@ -4,3 +4,5 @@ pub mod Orders
 pub mod Plans
 pub mod Steps
 pub mod Turning
+pub mod Turns
+pub mod Running

@@ -21,9 +21,9 @@ use Rattle.cfdp_session.specs.Turning.{turned}
 use Rattle.entity_routing.specs.declared.world_event.WorldEvent.TheVariants as events
 use Rattle.timer_list.specs.declared.armed.Armed.{Armed}
 use Rattle.timer_list.specs.Timers.{first_due, without_due}
-use Rattle.kept_timers.specs.Running as timing
-use Rattle.kept_timers.specs.Running.{IsIdle}
-use Rattle.pump_turns.specs.Turns.{TurnsValue, begun}
+use Rattle.cfdp_session.specs.Running as timing
+use Rattle.cfdp_session.specs.Running.{IsIdle}
+use Rattle.cfdp_session.specs.Turns.{TurnsValue, begun}
 
 -- at the beginning no sending lane has anything to send
 abbrev pub first_turns : ConfigValue → TurnsValue

@@ -7,7 +7,7 @@ use Rattle.entity_parts.specs.Refusals.{is_passing}
 use Rattle.entity_parts.specs.declared.refusal.EntityRefusal.{EntityRefusal}
 use Rattle.entity_routing.specs.declared.world_event.WorldEvent.{WorldEvent}
 use Rattle.entity_routing.specs.declared.world_event.WorldEvent.TheVariants as events
-use Rattle.pump_turns.specs.Turns.{TurnsValue, passed, rested, woken}
+use Rattle.cfdp_session.specs.Turns.{TurnsValue, passed, rested, woken}
 
 -- a transaction of the entity's own that was asked for its next PDU has had its turn
 abbrev pub after_turn : EntityId → WorldEvent → TurnsValue → TurnsValue

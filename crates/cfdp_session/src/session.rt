@@ -11,16 +11,15 @@ use crate::flat::{
 use crate::order::Order;
 use crate::plan::{Plan, Unset};
 use crate::turning::note;
+use crate::{KeptTimers, Turns};
 use cfdp_types::limits::{MESSAGE_OCTETS, MESSAGES};
 use cfdp_types::{Image, Messages, Octets, PutFault, PutRequest, TimerOp, TxnKey};
 use entity_config::{Config, ConfigFault, Setting, read_config};
 use entity_routing::lanes_of;
 use indications::{Bundle, Indication};
-use kept_timers::KeptTimers;
 use lane_table::{Done, Echo, Glance};
 use pdu_codec::{Pdu, encode};
 use pdu_values::{Direction, Header};
-use pump_turns::Turns;
 use std::alloc::{AllocError, Global};
 use std::{mem, str};
 use timer_list::Armed;
@@ -93,8 +92,8 @@ impl Session {
     ghost use Rattle.cfdp_session.specs.Orders.{put_of};
     ghost use Rattle.cfdp_session.specs.Plans.{IsUnset};
     ghost use Rattle.cfdp_session.specs.Steps.{IsLoaded, IsMissing, IsOpened, IsQuiet, IsSet, IsTaken, IsTicked, IsTold, IsUnsettled, expiry, left_after, running_in};
-    ghost use Rattle.kept_timers.specs.Running.{is_before, settled, waiting};
-    ghost use Rattle.pump_turns.specs.Turns.{next};
+    ghost use Rattle.cfdp_session.specs.Running.{is_before, settled, waiting};
+    ghost use Rattle.cfdp_session.specs.Turns.{next};
 
     /// Opens a session with a new entity, whose configuration is this TOML text. Octets that are not UTF-8 are
     /// `BadToml`.

@@ -2,11 +2,11 @@
 ghost use Rattle.std.specs.Prelude.{◌≡◌};
 ghost use Rattle.cfdp_session.specs.Turning.{after_turn, rested_by, turned, woken_by};
 
+use crate::Turns;
 use cfdp_types::{EntityId, TxnKey};
 use entity_parts::EntityRefusal;
 use entity_routing::WorldEvent;
 use lane_table::Done;
-use pump_turns::Turns;
 
 /// Notes the answer to an event of an entity with this ID.
 pub(crate) fn note(

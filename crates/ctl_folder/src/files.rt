@@ -1,8 +1,6 @@
 //! The files of the watched folder, as far as they are known.
 use crate::folder::Found;
-use ctl_watch::{
-    Given, Mark, Standing, Watched, given_again, is_renamed, next_to_send, watched_now,
-};
+use crate::{Given, Mark, Standing, Watched, given_again, is_renamed, next_to_send, watched_now};
 use std::alloc::{AllocError, Global};
 use std::collections::BTreeMap;
 use std::mem;

@@ -1,5 +1,5 @@
 //! The watched folder, and its folders for files that have ended.
-use ctl_watch::{Mark, is_alike, is_left_alone, kept_name, why_name};
+use crate::{Mark, is_alike, is_left_alone, kept_name, why_name};
 use std::alloc::{AllocError, Global};
 use std::fs::{Metadata, OpenOptions};
 use std::io::{ErrorKind, Write};

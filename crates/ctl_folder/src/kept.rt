@@ -1,6 +1,6 @@
 //! Files that were moved to `sent` a short time ago.
 use crate::folder::mark_at;
-use ctl_watch::{Rest, Sight, rest_of};
+use crate::{Rest, Sight, rest_of};
 use std::alloc::{AllocError, Global};
 use std::rt::Files;
 use std::{fs, mem};

@@ -1,2 +1,4 @@
 pub mod Counts
 mod Rows
+pub mod Looks
+pub mod Settling

@@ -4,3 +4,4 @@ pub mod Commands
 pub mod Moments
 pub mod Numbers
 pub mod Windows
+pub mod WindowLaws

@@ -2,6 +2,7 @@
 #![tactic(auto)]
 
 mod acts;
+pub mod laws;
 mod links;
 mod moments;
 mod numbers;

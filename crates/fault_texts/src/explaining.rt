@@ -1,10 +1,10 @@
 ghost use Rattle.std.specs.Prelude.{IfOk, option_map, string_bytes};
 ghost use Rattle.fault_texts.specs.Explained.{IsExplained};
 
+use crate::place_of;
 use crate::sentence::push_sentence;
 use config_reading::ConfigFault;
 use entity_config::read_config;
-use fault_places::place_of;
 use std::alloc::{AllocError, Global};
 
 /// Says why a configuration's text is refused, in one line without a line feed; None if it isn't. An error means that

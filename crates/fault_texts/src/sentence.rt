@@ -1,7 +1,7 @@
 //! The sentence on a fault of a configuration, by its place in the text.
 use crate::allowed::{allowed_at, remedy};
+use crate::{Place, Spot, push_handlers};
 use config_reading::ConfigFault;
-use fault_places::{Place, Spot, push_handlers};
 use std::alloc::AllocError;
 
 /// Adds what is wrong with a configuration, where, what was found there, and what is allowed. It has no line feed.

@@ -11,7 +11,7 @@ use pdu_values::{Body, Pdu};
 use program_common::Common;
 use program_desk::{Desk, Step, Urgency, moment, wall_moment};
 use program_lot::{Lot, Settled, lacks_memory};
-use program_parked::{Crowd, WorkersLot};
+use program_common::{Crowd, WorkersLot};
 use program_tallies::{Ledger, RefusalKind, Tallies, Traffic};
 use program_udp::{Compared, PduSender};
 use shared_entity::{Entity, EntityRefusal};

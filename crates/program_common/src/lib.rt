@@ -1,6 +1,9 @@
 //! What the threads of a program share.
 #![tactic(auto)]
 
+mod parked;
+
+pub use parked::{Crowd, WorkersLot, hear_step};
 use program_desk::Desk;
 use program_lot::Lot;
 use program_seats::Seats;

@@ -1,1 +1,4 @@
 pub mod LineupRows
+pub mod OrderFacts
+pub mod ChoiceFacts
+pub mod RunRows

@@ -1,2 +1,3 @@
 pub mod Lineups
 pub mod Counts
+pub mod LineupLaws

@@ -4,6 +4,7 @@
 
 mod choice;
 mod counts;
+pub mod laws;
 mod lineup;
 mod sending_lane;
 

@@ -2,3 +2,8 @@ pub mod SharingFacts
 pub mod PlaceFacts
 pub mod ParkingFacts
 pub mod ParkingRows
+pub mod LineFacts
+pub mod RunFacts
+pub mod TimesFacts
+pub mod AccountFacts
+pub mod RunRows

@@ -4,6 +4,7 @@
 
 mod counted;
 mod lane;
+pub mod laws;
 mod outcome;
 mod parked;
 mod parking;

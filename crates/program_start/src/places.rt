@@ -1,6 +1,6 @@
 //! Explains a fault of a configuration by its place in the text.
 use entity_config::ConfigFault;
-use fault_places::Place;
+use fault_texts::Place;
 use fault_texts::push_sentence;
 use std::alloc::AllocError;
 

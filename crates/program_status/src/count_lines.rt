@@ -1,7 +1,7 @@
 //! The lines of a status that show what is counted.
 use crate::counts::StationCounts;
 use crate::status::Shown;
-use ended_counts::{CONDITIONS, Class, Ended, Files, Role, missing_of};
+use program_tallies::{CONDITIONS, Class, Ended, Files, Role, missing_of};
 use entity_routing::Place;
 use indications::Side;
 use lane_table::Glance;

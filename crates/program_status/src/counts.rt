@@ -1,6 +1,6 @@
 //! What a server counts of transactions and files, if that is asked for.
 use cfdp_types::{Class as PduClass, Condition, EntityId, TxnKey};
-use ended_counts::{Class, Ended, EndedCounts, Files, Role, is_whole};
+use program_tallies::{Class, Ended, EndedCounts, Files, Role, is_whole};
 use entity_config::Config;
 use entity_routing::{Place, lanes_of};
 use indications::{Bundle, Indication};

@@ -1,2 +1,5 @@
 pub mod Kinds
 pub mod Replies
+pub mod Counts
+pub mod Files
+pub mod Whole

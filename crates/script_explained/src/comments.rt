@@ -1,9 +1,9 @@
 //! A script's lines and their answers in words. Each function appends to `text`; after an `Err` the text is not to be
 //! used.
+use crate::condition_words;
 use crate::datagrams::push_pdu_comment;
 use crate::refusals::refusal_words;
 use hex::FromHexError;
-use pdu_words::condition_words;
 use std::alloc::{AllocError, Global};
 
 /// Adds a comment line for each thing that a line of a script and its answer say: the PDU that was received, and those

@@ -1,6 +1,6 @@
 //! Datagrams in words. Each function appends to `text`; after an `Err` the text is not to be used.
+use crate::{push_pdu_words, push_transaction_words, push_way_words};
 use pdu_codec::{DecodeFault, decode};
-use pdu_words::{push_pdu_words, push_transaction_words, push_way_words};
 use std::alloc::{AllocError, Global};
 
 /// Adds what a datagram says: a line for its header and one for its body, or one for the fault of decoding it. Returns

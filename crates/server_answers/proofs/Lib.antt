@@ -1,2 +1,4 @@
 mod OutcomeRows
 mod Rows
+pub mod Peers
+pub mod NoteRows

@@ -2,7 +2,7 @@
 use Rattle.std.proofs.Common.{◌≡◌, [], ◌∷◌, codes, map, refl}
 use Rattle.std.specs.Fmt.{digits}
 use Rattle.cfdp_types.specs.declared.names.Role.TheVariants as role
-use Rattle.config_notes.specs.declared.note.Note.TheVariants as note
+use Rattle.server_answers.specs.declared.note.Note.TheVariants as note
 use Rattle.server_answers.specs.Answers.{bad_command_line, no_memory_line, too_large_line}
 use Rattle.server_answers.specs.Remarks.{remark_text, remarks_text, table_of}
 

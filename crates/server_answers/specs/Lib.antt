@@ -1,3 +1,4 @@
 pub mod Answers
 pub mod Outcomes
 pub mod Remarks
+pub mod Notes

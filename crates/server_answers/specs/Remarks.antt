@@ -3,8 +3,8 @@ use Rattle.std.specs.Prelude.{List, ℕ, ◌++◌, codes, decimal}
 use Rattle.std.specs.List.{flat_map}
 use Rattle.cfdp_types.specs.declared.names.Role.{Role}
 use Rattle.cfdp_types.specs.declared.names.Role.TheVariants as role
-use Rattle.config_notes.specs.declared.note.Note.{Note}
-use Rattle.config_notes.specs.declared.note.Note.TheVariants as note
+use Rattle.server_answers.specs.declared.note.Note.{Note}
+use Rattle.server_answers.specs.declared.note.Note.TheVariants as note
 
 -- the table of a role's handlers
 abbrev pub table_of : Role → List ℕ

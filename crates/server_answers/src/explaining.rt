@@ -1,6 +1,6 @@
 //! Says why the server ends too early, in a line below the fault.
 use entity_config::ConfigFault;
-use fault_places::{line_within, place_among, place_of, push_value};
+use fault_texts::{line_within, place_among, place_of, push_value};
 use outbox_file::{BadLine, bad_line_in};
 use program_control::{ControlFault, ControlSocket, push_control_reason};
 use program_numbers::push_numbers_reason;

@@ -4,6 +4,8 @@
 
 mod answers;
 mod explaining;
+mod note;
+mod notes;
 mod outcome;
 mod remarks;
 
@@ -11,5 +13,7 @@ pub use answers::{
     push_bad_command, push_entity_refusal, push_no_memory, push_taken, push_too_large, push_traced,
 };
 pub use explaining::{push_cause, push_folder_notes, push_log_reason, push_station_fault};
+pub use note::Note;
+pub use notes::notes_of;
 pub use outcome::{Declined, Outcome, Taken, may_pass, push_declined, push_outcome};
 pub use remarks::push_remarks;

@@ -1,10 +1,10 @@
 //! What makes little sense in a configuration, in words.
 ghost use Rattle.std.specs.Prelude.{◌≡◌, ◌++◌, OnOk, string_bytes};
-ghost use Rattle.config_notes.specs.Notes.{notes_of};
+ghost use Rattle.server_answers.specs.Notes.{notes_of};
 ghost use Rattle.server_answers.specs.Remarks.{remark_text, remarks_text, table_of};
 
+use crate::{Note, notes_of};
 use cfdp_types::Role;
-use config_notes::{Note, notes_of};
 use entity_config::Config;
 use std::alloc::{AllocError, Global};
 

@@ -1,5 +1,5 @@
 //! Who commanded what, for whoever reads events.
-use command_words::{command_words, put_words, send_words};
+use server_lines::{command_words, put_words, send_words};
 use program_desk::Said;
 use program_seats::Asker;
 use program_start::Unread;

@@ -1,7 +1,7 @@
 //! The outbox of a server: the files that wait, those that it began, and the file that keeps both over restarts.
 use cfdp_types::TxnKey;
 use cfdp_types::limits::FILE_OCTETS;
-use command_words::send_words;
+use server_lines::send_words;
 use disk::SystemDisk;
 use entity_config::Config;
 use entity_routing::Place;

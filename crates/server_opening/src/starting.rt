@@ -1,7 +1,7 @@
 //! What is to be served, by the command line and the file that this names.
 use crate::checking::{check, station_fault, text_at};
 use entity_config::{Config, ConfigFault, read_config};
-use program_replies::asked_text;
+use program_words::asked_text;
 use program_start::{ProgramFault, Started, load_text, print, push_explanation, tell_explanation};
 use program_words::{
     EntityWords, ServerWords, WordsFault, push_server_complaint, server_help, server_version,

@@ -6,9 +6,9 @@ use Rattle.lane_table.specs.Lane.{State, idle, IsNumbered}
 use Rattle.user_queues.specs.Queue.{Queue, empty}
 use Rattle.world_table.specs.Histories.{AreIdle}
 use Rattle.entity_routing.specs.Places.{lanes_of, source_of_lane}
-use Rattle.world_users.specs.Posts.{Post}
-use Rattle.world_users.specs.Standing.{IsPostAfter, UsersStandAfter}
-use Rattle.world_users.proofs.ListFacts.{some_is, get_within, within_get}
+use Rattle.world_core.specs.Posts.{Post}
+use Rattle.world_core.specs.Standing.{IsPostAfter, UsersStandAfter}
+use Rattle.world_core.proofs.ListFacts.{some_is, get_within, within_get}
 use Rattle.entity_parts.specs.FirstLanes.{lane_for, first_lane}
 use Rattle.world_core.specs.Opening.{layout_of, AreMade}
 

@@ -19,9 +19,9 @@ use Rattle.entity_routing.specs.declared.place.Place.{Place}
 use Rattle.entity_routing.specs.Routes.{Routed, route, key_place, own_place, pdu_place, put_params, routed_put, key_of_header}
 use Rattle.entity_routing.proofs.PlaceFacts.{places_within}
 use Rattle.entity_routing.proofs.RouteFacts.{place_is, own_is, pdu_is}
-use Rattle.world_users.specs.Posts.{Post}
-use Rattle.world_users.specs.Standing.{IsLaneIn, UsersStandAfter, IsTakenAt, IsRefusedAt, IsTakenFrom}
-use Rattle.world_users.proofs.StandFacts.{ok_then}
+use Rattle.world_core.specs.Posts.{Post}
+use Rattle.world_core.specs.Standing.{IsLaneIn, UsersStandAfter, IsTakenAt, IsRefusedAt, IsTakenFrom}
+use Rattle.world_core.proofs.StandFacts.{ok_then}
 use Rattle.entity_parts.specs.declared.refusal.EntityRefusal.{EntityRefusal}
 use Rattle.entity_parts.specs.declared.refusal.EntityRefusal.TheVariants as answer
 use Rattle.world_core.specs.Opening.{layout_of}

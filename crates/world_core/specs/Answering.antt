@@ -6,8 +6,8 @@ use Rattle.lane_table.specs.declared.refused.Refused.{Refused}
 use Rattle.world_table.specs.Histories.{Happening, steps}
 use Rattle.entity_routing.specs.declared.refusal.RouteRefusal.{RouteRefusal}
 use Rattle.entity_routing.specs.Routes.{Routed}
-use Rattle.world_users.specs.Posts.{Post}
-use Rattle.world_users.specs.Standing.{Takes, IsRefusedAt}
+use Rattle.world_core.specs.Posts.{Post}
+use Rattle.world_core.specs.Standing.{Takes, IsRefusedAt}
 use Rattle.entity_parts.specs.declared.refusal.EntityRefusal.{EntityRefusal}
 use Rattle.entity_parts.specs.declared.refusal.EntityRefusal.TheVariants as answer
 use Rattle.world_core.specs.Opening.{layout_of}

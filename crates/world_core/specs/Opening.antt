@@ -3,7 +3,7 @@ use Rattle.std.specs.Prelude.{◌≡◌, ℕ, List, length, Some, slice_get}
 use Rattle.config_reading.specs.Values.{ConfigValue}
 use Rattle.entity_routing.specs.Places.{lanes_of}
 use Rattle.entity_parts.specs.FirstLanes.{first_lane}
-use Rattle.world_users.specs.Standing.{Layout}
+use Rattle.world_core.specs.Standing.{Layout}
 
 -- the layout of a configuration: users, lanes and room
 abbrev pub layout_of : ConfigValue → Layout

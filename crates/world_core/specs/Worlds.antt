@@ -15,8 +15,8 @@ use Rattle.entity_routing.specs.declared.world_event.WorldEvent.{WorldEvent}
 use Rattle.entity_routing.specs.declared.world_event.WorldEvent.TheVariants as events
 use Rattle.entity_routing.specs.Routes.{Routed}
 use Rattle.entity_parts.specs.Asking.{MayRequest}
-use Rattle.world_users.specs.Posts.{Post}
-use Rattle.world_users.specs.Standing.{lane_in, UsersStandAfter, Takes, IsRefusedAt}
+use Rattle.world_core.specs.Posts.{Post}
+use Rattle.world_core.specs.Standing.{lane_in, UsersStandAfter, Takes, IsRefusedAt}
 use Rattle.entity_parts.specs.declared.refusal.EntityRefusal.{EntityRefusal}
 use Rattle.entity_parts.specs.declared.refusal.EntityRefusal.TheVariants as answer
 use Rattle.entity_parts.specs.Refusals.{IsUnreadFrom}

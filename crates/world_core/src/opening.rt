@@ -1,15 +1,15 @@
 //! Making the users of an entity, as configured.
 ghost use Rattle.std.specs.Prelude.{◌≡◌, [], IfOk, IsTrue};
-ghost use Rattle.world_users.specs.Standing.{IsPostAfter, UsersStandAfter};
+ghost use Rattle.world_core.specs.Standing.{IsPostAfter, UsersStandAfter};
 ghost use Rattle.config_reading.specs.Values.{is_config};
 ghost use Rattle.world_core.specs.Opening.{layout_of};
 
+use crate::{UserPart, Users};
 use entity_config::Config;
 use entity_parts::lane_for;
 use entity_routing::lanes_of;
 use std::alloc::{AllocError, Global};
 use user_queues::ListQueue;
-use world_users::{UserPart, Users};
 
 /// The users of a new entity.
 pub(crate) fn users_for(alloc: Global, config: &Config) -> Result<Users, AllocError>

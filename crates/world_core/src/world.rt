@@ -1,3 +1,4 @@
+use crate::Users;
 use crate::opening::users_for;
 use cfdp_types::{Image, PutRequest, TxnKey};
 use entity_config::Config;
@@ -10,7 +11,6 @@ use lane_table::{Done, Glance, Refused};
 use std::alloc::{AllocError, Global};
 use std::marker::Model;
 use txn_events::{Event, What};
-use world_users::Users;
 
 /// A protocol entity in one thread. It handles events and returns what is to be done; its users take their indications.
 /// Contracts see its configuration and its users. They are stated for every history, newest first, that can have led to
@@ -42,7 +42,7 @@ impl World {
     ghost use Rattle.world_table.specs.Histories.{Happening, takes, held_for};
     ghost use Rattle.entity_routing.specs.Routes.{route, key_place, routed_key, routed_own, routed_request, routed_reading, routed_put, put_params};
     ghost use Rattle.entity_parts.specs.FirstLanes.{first_lane};
-    ghost use Rattle.world_users.specs.Posts.{glance_at};
+    ghost use Rattle.world_core.specs.Posts.{glance_at};
     ghost use Rattle.world_core.specs.Routed.{IsRoutedTo};
     ghost use Rattle.entity_parts.specs.Asking.{MayRequest};
     ghost use Rattle.world_core.specs.Worlds.{StandsAfter, MayCome, IsAnswered, IsUnread, IsFront, IsImage, history_after};

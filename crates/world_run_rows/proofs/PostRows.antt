@@ -23,8 +23,8 @@ use Rattle.world_rows.specs.SendingLaneRows.{sending_lane, fresh, key, put, on}
 use Rattle.txn_lane.specs.Stepping.{RanOut, WasFull}
 use Rattle.user_queues.specs.Queue.{Queue}
 use Rattle.world_rows.specs.HistoryRows.{lanes, history, bundle}
-use Rattle.world_users.specs.Posts.{Post, Fits, HasRoomFor, IsNoStepOf, IsStepOf, IsToldTo, IsWhyRefused, MayStep, post_stepped, with_told}
-use Rattle.world_users.specs.Standing.{IsLaneIn, Layout, lane_in, queue_in}
+use Rattle.world_core.specs.Posts.{Post, Fits, HasRoomFor, IsNoStepOf, IsStepOf, IsToldTo, IsWhyRefused, MayStep, post_stepped, with_told}
+use Rattle.world_core.specs.Standing.{IsLaneIn, Layout, lane_in, queue_in}
 
 -- ---- a lane of alice's, and her queue
 

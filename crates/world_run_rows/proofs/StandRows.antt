@@ -13,8 +13,8 @@ use Rattle.lane_table.specs.Steps.{plainly}
 use Rattle.world_rows.specs.SendingLaneRows.{put, on}
 use Rattle.world_table.specs.Histories.{Happening, takes}
 use Rattle.world_rows.specs.HistoryRows.{lanes, idle_lanes, history, can_be, bundle}
-use Rattle.world_users.specs.Posts.{Post}
-use Rattle.world_users.specs.Standing.{IsPostAfter, IsRefusedAt, IsTakenFrom, Layout, UsersStandAfter, lane_in, queue_in}
+use Rattle.world_core.specs.Posts.{Post}
+use Rattle.world_core.specs.Standing.{IsPostAfter, IsRefusedAt, IsTakenFrom, Layout, UsersStandAfter, lane_in, queue_in}
 
 -- two lanes of each of two users, and room for three bundles
 abbrev layout : Layout

@@ -1,3 +1,3 @@
-//! Worked examples of the states and results of an entity of one thread, which the checker computes from `world_users`,
-//! `world_core` and `world_laws`. There is no code here: each row is a lemma in `proofs/`.
+//! Worked examples of the states and results of an entity of one thread, which the checker computes from `world_core` and
+//! `world_laws`. There is no code here: each row is a lemma in `proofs/`.
 #![tactic(auto)]

@@ -1,6 +1,6 @@
 use Rattle.std.proofs.Common.{[], sym, subst}
 use Rattle.entity_config.proofs.Limits.{has_users, has_lanes}
-use Rattle.world_users.specs.Standing.{IsPostAfter, UsersStandAfter}
+use Rattle.world_core.specs.Standing.{IsPostAfter, UsersStandAfter}
 use Rattle.world_core.specs.Opening.{layout_of}
 use Rattle.world_core.proofs.OpeningFacts.{one_made, users_made, all_made, made_at}
 use Rattle.world_core.proofs.opening.users_for.Goals as goal

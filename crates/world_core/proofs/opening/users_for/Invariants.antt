@@ -1,5 +1,5 @@
 use Rattle.std.proofs.Common.{[]}
-use Rattle.world_users.specs.Standing.{IsPostAfter}
+use Rattle.world_core.specs.Standing.{IsPostAfter}
 use Rattle.world_core.specs.Opening.{layout_of, AreMade}
 use Rattle.world_core.proofs.opening.users_for.Given as goal
 

@@ -1,5 +1,5 @@
 use Rattle.std.proofs.Common.{◌≡◌, ◌∷◌, [], List, IfNone, IfSome, subst}
-use Rattle.world_users.proofs.StandFacts.{some_then}
+use Rattle.world_core.proofs.StandFacts.{some_then}
 use Rattle.world_core.proofs.WorldFacts.{taken_front, still_taken}
 use Rattle.world_table.specs.Histories.{Happening, takes, held_for}
 use Rattle.entity_parts.specs.FirstLanes.{first_lane}

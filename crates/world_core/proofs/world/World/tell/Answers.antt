@@ -1,6 +1,6 @@
 use Rattle.std.proofs.Common.{List, Ok, Err, refl, sym, subst}
 use Rattle.world_table.specs.Histories.{Happening}
-use Rattle.world_users.proofs.StandFacts.{ok_then}
+use Rattle.world_core.proofs.StandFacts.{ok_then}
 use Rattle.entity_parts.specs.declared.refusal.EntityRefusal.TheVariants.{Lane}
 use Rattle.world_core.specs.Answering.{AnswersAt}
 use Rattle.world_core.specs.Opening.{layout_of}

@@ -1,3 +1,0 @@
-pub mod OrderFacts
-pub mod ChoiceFacts
-pub mod RunRows

@@ -1,5 +1,0 @@
-pub mod LineFacts
-pub mod RunFacts
-pub mod TimesFacts
-pub mod AccountFacts
-pub mod RunRows

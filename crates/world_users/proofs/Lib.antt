@@ -1,3 +1,0 @@
-pub mod ListFacts
-pub mod PostFacts
-pub mod StandFacts
