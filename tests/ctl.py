@@ -230,6 +230,7 @@ def tables():
              and widths[3] == widths[0], widths)
         for word in (b"Users", b"Ended", b"Remotes", b"Refusals", b"DecodeFault", b"7.3", b"\\x1b"):
             want(f"status, {word}", word in text, text)
+        want("status, what a refusal means", b"it has a CRC" in ctl("status", "--width", "300").stdout, text)
         want("status, no colour", b"\x1b" not in text, text)
         check("status in colour", ctl("status", "--colour", "always"), 0, b"\x1b[1m")
         run = ctl("status", "--json")
@@ -352,7 +353,9 @@ def words_of_events():
          "ops 1.41 finished: complete, retained"),
         ({**about, "name": "\x9bnews"}, "ops 1.41 \\x9bnews"),
         ({**at, "kind": "refused", "refusal": 20, "name": "DecodeFault", "fault": 3, "count": 2, "from": "192.0.2.1:4556"},
-         "refused: DecodeFault 3, times 2, from 192.0.2.1:4556"),
+         "refused: DecodeFault 3, times 2, from 192.0.2.1:4556: it has a CRC, which has to be switched off"),
+        ({**at, "kind": "refused", "refusal": 22, "name": "NotForUs"}, "refused: NotForUs: it is addressed to another entity"),
+        ({**at, "kind": "refused", "refusal": 99, "name": "Newer"}, "refused: Newer"),
         ({**at, "kind": "start", "id": 2}, "the server starts as entity 2"),
         ({**at, "kind": "stored", "source": 1, "seq": 41, "status": "rejected"}, "1.41 file rejected"),
         ({**at, "kind": "stored", "source": 1, "seq": 41, "status": "rejected", "why": "no space is left"},

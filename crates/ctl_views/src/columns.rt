@@ -2,7 +2,7 @@
 use crate::columns::Column::{Left, Right};
 use crate::parts::Part;
 use crate::parts::Part::{
-    Age, Bar, Condition, Direction, End, Held, Name, Names, Number, Octets, Percent, Rate,
+    Age, Bar, Condition, Direction, End, Held, Meaning, Name, Names, Number, Octets, Percent, Rate,
     SomeNumber, SomeNumbers, SomeOctets, SomeText, Text, Words,
 };
 use station_names::{kind, member};
@@ -196,6 +196,7 @@ pub(crate) const LAYOUTS: [Layout; 12] = [
             ),
             Left("last", &[Text(member::LAST, "-")]),
             Left("from", &[Text(member::FROM, "-")]),
+            Left("meaning", &[Meaning("")]),
         ],
     },
     Layout {

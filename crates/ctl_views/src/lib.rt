@@ -11,6 +11,7 @@ mod fields;
 mod history;
 mod lines;
 mod listing;
+mod meanings;
 mod moments;
 mod outcomes;
 mod page;

@@ -3,6 +3,7 @@ use crate::amounts::{push_age, push_bar, push_octets, push_rate};
 use crate::conditions::condition_words;
 use crate::ends::push_end;
 use crate::fields::{is_set, items_in, moment_in, number_in, push_name, share_in, text_in};
+use crate::meanings::refusal_words;
 use json::Value;
 use station_names::{member, word};
 use std::alloc::{AllocError, Global};
@@ -36,6 +37,8 @@ pub(crate) enum Part {
     Condition,
     /// How the transaction ended.
     End,
+    /// Words, and what a refusal says of its datagram; left out if that isn't known.
+    Meaning(&'static str),
     /// The direction of the file, before the entity at the other end.
     Direction,
     /// Since when the link is held, if it is.
@@ -107,6 +110,7 @@ fn push_part(
         Part::SomeOctets(front, name) => push_amount(text, front, number_in(value, name), ""),
         Part::Condition => push_condition(text, number_in(value, member::CONDITION)),
         Part::End => push_end(text, value),
+        Part::Meaning(front) => push_some_text(text, front, meaning_in(value), ""),
         Part::Direction => text.push_str(direction_of(text_in(value, member::ROLE))),
         Part::Held => push_held(text, value),
         Part::Bar => push_share_bar(text, share_in(value)),
@@ -128,6 +132,14 @@ fn push_number(
         Some(number) => write!(text, "{front}{number}{back}"),
         None => text.push_str(missing),
     }
+}
+
+// What the refusal that a line names says of its datagram.
+fn meaning_in(value: &Value<'_>) -> Option<&'static str> {
+    text_in(value, member::NAME).and_then(|name| refusal_words(
+        name,
+        number_in(value, member::FAULT),
+    ))
 }
 
 // Adds an amount of octets after a text, or a text in the place of both.

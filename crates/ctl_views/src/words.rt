@@ -1,7 +1,7 @@
 //! The words for each event.
 use crate::parts::Part;
 use crate::parts::Part::{
-    Condition, End, Name, Names, Number, SomeNumber, SomeOctets, SomeText, Text, Words,
+    Condition, End, Meaning, Name, Names, Number, SomeNumber, SomeOctets, SomeText, Text, Words,
 };
 use station_names::{kind, member};
 
@@ -137,6 +137,7 @@ const REFUSED: &[Part] = &[
     SomeNumber(" ", member::FAULT, ""),
     SomeNumber(", times ", member::COUNT, ""),
     SomeText(", from ", member::FROM, ""),
+    Meaning(": "),
 ];
 
 const JOURNAL_FULL: &[Part] = &[Words("abandoned: its journal is full")];
