@@ -114,7 +114,7 @@ enum { CFDP_CANCEL = 1, CFDP_SUSPEND = 2, CFDP_RESUME = 3, CFDP_REPORT = 4, CFDP
 /* What cfdp_set sets, and what cfdp_set_handler may name. */
 enum {
     CFDP_SET_CAPACITY = 1,    /* for how many bundles each user's queue has room */
-    CFDP_SET_FIRST = 2,       /* where the numbers of Puts begin */
+    CFDP_SET_FIRST = 2,       /* where the numbers of Puts begin: at this times the sending lanes of all users together */
     CFDP_SET_ACK_LIMIT = 3,   /* which expiration of a timer is a fault, of every remote entity */
     CFDP_SET_NAK_LIMIT = 4,
     CFDP_SET_CHECK_LIMIT = 5,

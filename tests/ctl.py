@@ -236,6 +236,8 @@ def tables():
         run = ctl("status", "--json")
         check("status as it comes", run, 0, b'{"kind": "user", "name": "sim"')
         want("status as it comes, its lines", run.stdout.count(b"\n") == 48, run.stdout)
+        check("a limit", ctl("rate", "5", "9000"), 0)
+        check("status, a limit", ctl("status", "--width", "160"), 0, b"192.0.2.5:4556, at most 9000 octets a second")
 
 
 def said(status=(), events=()):

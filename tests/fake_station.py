@@ -114,6 +114,8 @@ class Station:
         self.faults = 0
         self.held = {}
         self.open_until = {}
+        # the limits that commands set, of both links ("all") and of one
+        self.rates = {}
 
     def tell(self, **members):
         with self.lock:
@@ -279,7 +281,9 @@ class Station:
             held = self.held.get(number)
             yield {"kind": "remote", "id": number, "address": f"192.0.2.{number}:4556", "held": held is not None,
                    **({"held_since": held} if held else {}),
-                   **({"open_until": moment(self.open_until[number])} if number in self.open_until else {}), "datagrams_in": 1, "octets_in": 9 + moved[number][0],
+                   **({"open_until": moment(self.open_until[number])} if number in self.open_until else {}),
+                   **({"rate": rate} if (rate := self.rates.get(number, self.rates.get("all"))) else {}),
+                   "datagrams_in": 1, "octets_in": 9 + moved[number][0],
                    "datagrams_out": 1, "octets_out": 9 + moved[number][1], "failed_sends": 0,
                    **({"heard": moment(time.time() - 90), "silence": 90_000} if number == 7 and self.options.counters else {})}
         yield {"kind": "refusal", "number": 20, "name": "DecodeFault", "fault": 3, "count": 3, "last": moment(),
@@ -349,7 +353,13 @@ class Station:
                 self.tell(kind=name, id=remote)
             return "ok\n"
         if name == "rate" and len(words) in (2, 3):
-            return "ok\n" if len(words) == 2 or words[1] in (b"5", b"7") else "refused UnknownRemote\n"
+            if len(words) == 3 and words[1] not in (b"5", b"7"):
+                return "refused UnknownRemote\n"
+            link = int(words[1]) if len(words) == 3 else "all"
+            self.rates.pop(link, None)
+            if words[-1] != b"off":
+                self.rates[link] = int(words[-1])
+            return "ok\n"
         if words == [b"drop", b"507"]:
             return "outbox fault\n"
         if name == "drop" and len(words) == 2 and words[1].isdigit():

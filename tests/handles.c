@@ -337,8 +337,9 @@ static void settings(void) {
     /* what doesn't reach the entity comes in between: a message, a look, a time, a Put of no user */
     CHECK(cfdp_message(&entity, METADATA, 3) == CFDP_OK && cfdp_take(&entity, 0, &bundle) == CFDP_NOTHING);
     CHECK(cfdp_tick(&entity, 5, &done) == CFDP_NOTHING);
-    CHECK(cfdp_set(&entity, CFDP_SET_FIRST, 40) == CFDP_OK && cfdp_set(&entity, CFDP_SET_CAPACITY, 1) == CFDP_OK);
-    CHECK(cfdp_set(&entity, CFDP_SET_CHECKSUM, CFDP_CHECKSUM_NULL) == CFDP_OK && cfdp_set(&entity, CFDP_SET_FIRST, 80) == CFDP_OK);
+    CHECK(cfdp_set(&entity, CFDP_SET_FIRST, 10) == CFDP_OK && cfdp_set(&entity, CFDP_SET_CAPACITY, 1) == CFDP_OK);
+    CHECK(cfdp_set(&entity, CFDP_SET_CHECKSUM, CFDP_CHECKSUM_NULL) == CFDP_OK && cfdp_set(&entity, CFDP_SET_FIRST, 20) == CFDP_OK);
+    /* a round of numbers is one for each of four sending lanes */
     CHECK(first_number(&entity) == 80);
     /* the message was kept for it, and the queue has room for one bundle */
     CHECK(cfdp_pump(&entity, 2, 80, &done) == CFDP_OK && cfdp_pdu(&entity, 0, octets, sizeof octets, &len) == CFDP_OK);

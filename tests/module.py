@@ -195,10 +195,11 @@ def settings_before_the_first_event():
                      lambda: one.set_handler(4, 7, Handler.CANCEL), lambda: one.set_handler(Role.SEND, 7, 5)):
             refused(ValueError, call)
         refused(OverflowError, lambda: one.set(Setting.FIRST, 2**64))
-        one.set(Setting.FIRST, 40)
+        one.set(Setting.FIRST, 20)
         one.set(Setting.CHECKSUM, Checksum.NULL)
-        one.set(Setting.FIRST, 80)
+        one.set(Setting.FIRST, 40)
         one.set_handler(Role.SEND, Condition.POSITIVE_ACK_LIMIT_REACHED, Handler.SUSPEND)
+        # a round of numbers is one for each of two sending lanes
         want(put(one).seq, 80)
         end = pumped(one)[0][2]
         want((end[7], end[9:13]), (4, bytes(4)))
@@ -209,15 +210,18 @@ def settings_before_the_first_event():
 
 @case
 def the_handler_that_was_set():
-    for handler, kind in ((Handler.CANCEL, Kind.FINISHED), (Handler.SUSPEND, Kind.SUSPENDED), (Handler.ABANDON, Kind.ABANDONED)):
+    ends = (Kind.FINISHED, Kind.SUSPENDED, Kind.ABANDONED)
+    for handler, kind in zip((Handler.CANCEL, Handler.SUSPEND, Handler.ABANDON), ends):
         with entity() as one:
             one.set(Setting.ACK_LIMIT, 1)
             one.set_handler(Role.SEND, Condition.POSITIVE_ACK_LIMIT_REACHED, handler)
             done = put(one)
             timers = [timer for _ in range(3) for timer in one.pump(done.source, done.seq).timers]
-            one.timer(next(timer for timer in timers if timer.kind == TimerKind.ACK and timer.arms))
-            told = [said.kind for bundle in one.bundles(0) for said in bundle.indications]
-            want((handler, kind in told), (handler, True))
+            # a transaction that is cancelled ends where the EOF that says so isn't acknowledged, either
+            while armed := [timer for timer in timers if timer.kind == TimerKind.ACK and timer.arms]:
+                timers = one.timer(armed[0]).timers
+            told = [said.kind for bundle in one.bundles(0) for said in bundle.indications if said.kind in ends]
+            want((handler, told), (handler, [kind]))
 
 
 @case

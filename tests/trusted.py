@@ -131,9 +131,10 @@ histories of the entity of one thread, and the laws: world_table/Histories Histo
 users after a history; what `World` answers; events where the configuration says: world_core/Standing Opening Worlds Answering Routed
 laws of every run, by keys; of every script: world_laws/EntityLaws script_laws/ScriptLaws
 a session round an entity: what calls do, what is kept, answers as numbers, the Put of an order, who may send: cfdp_session/Steps Kept Flat Orders Turning
+of what an entity is made before its first event: text and settings: cfdp_session/Plans
 lanes in turn; timers of which some operations are still to be done: cfdp_session/Turns Running
 when a configuration's fault is explained: fault_texts/Explained
-the entity for C: what a handle owns, what calls do to it, codes and names, faults in words: cfdp_c/Owned Calls Codes Names Explaining
+the entity for C: what a handle owns, what calls do to it, codes and names, faults in words, settings: cfdp_c/Owned Calls Codes Names Explaining Setting
 the list of timers that run: timer_list/Timers
 what a disk was asked; what a power cut may leave of it; which faults may pass: disk/Steps Crash Faults
 what is promised of a file on a disk; how long it stays; why each flush is needed: disk/Promise Staying Needed

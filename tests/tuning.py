@@ -221,6 +221,20 @@ def rates_that_change():
 
 
 @case
+def the_limit_that_holds_is_in_the_status():
+    """The status says which limit holds for each link: its own, or else the one that the others share. Those of the station's file count."""
+    options = ("sending.rate = 7000", "remote[3].rate = 500")
+    with station(SERVER, options=options, text=two_links()) as (one, _):
+        client = one.client()
+        limits = lambda: [line.get("rate") for line in client.status() if line["kind"] == "remote"]
+        want(limits(), [7_000, 500])
+        for words, shown in (("rate 2 8000", [8_000, 500]), ("rate 9000", [8_000, 500]), ("rate 2 off", [9_000, 500]),
+                             ("rate 3 off", [9_000, 9_000]), ("rate off", [None, None]), ("rate 3 1000000000", [None, 1_000_000_000])):
+            want((words, client.ask(words), limits()), (words, ["ok"], shown))
+        want((client.ask("rate 4 1"), limits()), (["refused UnknownRemote"], [None, 1_000_000_000]))
+
+
+@case
 def urgent_files():
     """An urgent file goes before those of its user that wait, and another name is told to the receiver."""
     with stations(first=("station.hold = true",), lanes=1) as (one, other, _):

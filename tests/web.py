@@ -226,6 +226,7 @@ def commands(port):
     check("release: ok", give(b"release 5")[::2] == (200, b"ok\n"))
     lines = (b"hold all", b"release 5 60", b"rate 5 9000", b"rate off", b"release all")
     check("all links, a window and rates: ok", [give(line)[::2] for line in lines] == [(200, b"ok\n")] * len(lines))
+    check("the limit of a link", wait_for(lambda: [r.get("rate") for r in json.loads(ask(port, "/status.json")[2])["remotes"]] == [9000, None]))
     check("a refusal is shown", give(b"cancel ops 1 41")[2] == b"refused 1 NoTransaction\n")
     check("abandon is passed on", give(b"abandon ops 1 41")[::2] == (200, b"refused 1 NoTransaction\n"))
     check("a transaction's script", give(b"journal 2 41")[::2] == (200, b"# a recording\ntake ops\n"))

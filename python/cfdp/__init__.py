@@ -266,8 +266,8 @@ class TimerKind(_Number):
 
 
 class Setting(_Number):
-    """What can be set before the first event: for how many bundles each user's queue has room, where the numbers of Puts begin, which
-    expiration of a timer is a fault, and the checksum of sent files."""
+    """What can be set before the first event: for how many bundles each user's queue has room, where the numbers of Puts begin (at this
+    times the sending lanes of all users together), which expiration of a timer is a fault, and the checksum of sent files."""
 
     CAPACITY = 1
     FIRST = 2

@@ -10,11 +10,11 @@ use crate::screen::Screen;
 use crate::sending::{LONG_NAME, number_of, print_queued};
 use crate::sent::{Fate, has_arrived, send_status};
 use ctl_folder::{
-    FAILED, HotFile, HotFiles, KeptFile, KeptFiles, Listing, Place, SENT, keep_file, list,
-    make_folders, mark_at, path_being_read, take_back, was_sent,
+    AtEnd, FAILED, Given, HotFile, HotFiles, KeptFile, KeptFiles, Listing, Mark, Place, SENT,
+    Sight, Turn, at_end, keep_file, list, make_folders, mark_at, path_being_read, take_back,
+    was_sent,
 };
 use ctl_views::{Event, Page, Step, Tone, Transaction, UnderWay, read_event, read_under_way};
-use ctl_folder::{AtEnd, Given, Mark, Sight, Turn, at_end};
 use ctl_words::{SendCommand, WatchWords, has_long_name, send_command};
 use std::alloc::{AllocError, Global};
 use std::env::Env;

@@ -2,8 +2,7 @@
 #![tactic(auto)]
 
 use cfdp_send::{Outputs, put_one};
-use program_words::tell_words_fault;
-use program_words::line_of;
+use program_words::{line_of, tell_words_fault};
 use std::io;
 use std::io::IsTerminal;
 use std::process::ExitCode;

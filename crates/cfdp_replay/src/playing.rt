@@ -2,9 +2,8 @@
 use crate::explaining::explain;
 use crate::words::{ReplayWords, replay_help, replay_version, replay_words};
 use entity_config::{Config, ConfigFault};
-use program_words::{asked_text, fault_of};
 use program_start::{ProgramFault, load_text, print, tell_fault};
-use program_words::{WordsFault, line_of};
+use program_words::{WordsFault, asked_text, fault_of, line_of};
 use script_explained::explain_to_end;
 use script_replay::{AnswerPace, Session, play_to_end, play_with};
 use station_config::read_entity;

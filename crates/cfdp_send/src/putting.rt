@@ -6,14 +6,13 @@ use cfdp_types::{PutFault, PutRequest};
 use entity_config::{Config, Setting};
 use program_arrivals::Sources;
 use program_numbers::{HeldNumbers, Puts};
-use program_words::asked_text;
 use program_start::{
     ProgramFault, Started, load_config, load_file, push_explanation, tell_explanation, tell_fault,
 };
 use program_udp::open_socket;
 use program_words::{
-    PutWords, WordsFault, asks_for_check, check_words, push_check_complaint, push_put_complaint,
-    put_help, put_version, put_words,
+    PutWords, WordsFault, asked_text, asks_for_check, check_words, push_check_complaint,
+    push_put_complaint, put_help, put_version, put_words,
 };
 use std::alloc::{AllocError, Global};
 use std::io::Write;

@@ -2,9 +2,8 @@
 #![tactic(auto)]
 
 use cfdp_serve::{Streams, serve};
-use program_words::tell_words_fault;
 use program_start::RuntimeFiles;
-use program_words::line_of;
+use program_words::{line_of, tell_words_fault};
 use std::io;
 use std::io::IsTerminal;
 use std::process::ExitCode;

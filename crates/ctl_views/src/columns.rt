@@ -172,6 +172,7 @@ pub(crate) const LAYOUTS: [Layout; 12] = [
                 &[
                     Text(member::ADDRESS, "no address"),
                     Held,
+                    SomeNumber(", at most ", member::RATE, " octets a second"),
                     SomeText(", heard ", member::HEARD, ""),
                 ],
             ),

@@ -1,7 +1,6 @@
 //! Explains a fault of a configuration by its place in the text.
 use entity_config::ConfigFault;
-use fault_texts::Place;
-use fault_texts::push_sentence;
+use fault_texts::{Place, push_sentence};
 use std::alloc::AllocError;
 
 /// Adds a line that says what is wrong with a configuration, where, what was found there, and what is allowed.

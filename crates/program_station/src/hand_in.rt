@@ -2,9 +2,9 @@
 use crate::station::Station;
 use cfdp_types::TxnKey;
 use entity_routing::place_of_key;
+use program_common::hear_step;
 use program_desk::{Step, wall_moment};
 use program_lot::{Handed, Lot, LotAddress, Settled, lacks_memory};
-use program_common::hear_step;
 use program_tallies::RefusalKind;
 use shared_entity::EntityRefusal;
 use shared_lanes::{Names, NoGate};

@@ -1,11 +1,10 @@
 //! The lines of a status that show what is counted.
 use crate::counts::StationCounts;
 use crate::status::Shown;
-use program_tallies::{CONDITIONS, Class, Ended, Files, Role, missing_of};
 use entity_routing::Place;
 use indications::Side;
 use lane_table::Glance;
-use program_tallies::Tallies;
+use program_tallies::{CONDITIONS, Class, Ended, Files, Role, Tallies, missing_of};
 use station_lines::{
     DeliveredStatus, EndedStatus, Heard, Moment, push_delivered, push_ended, push_store,
 };

@@ -1,9 +1,9 @@
 //! What a server counts of transactions and files, if that is asked for.
 use cfdp_types::{Class as PduClass, Condition, EntityId, TxnKey};
-use program_tallies::{Class, Ended, EndedCounts, Files, Role, is_whole};
 use entity_config::Config;
 use entity_routing::{Place, lanes_of};
 use indications::{Bundle, Indication};
+use program_tallies::{Class, Ended, EndedCounts, Files, Role, is_whole};
 use shared_entity::Entity;
 use shared_lanes::Names;
 use std::alloc::{AllocError, Global};

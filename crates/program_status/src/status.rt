@@ -55,6 +55,8 @@ pub struct Shown<'a> {
     pub outgoing: &'a Outgoing,
     /// The links open for a time.
     pub windows: &'a Windows,
+    /// The limit in octets a second that all links without a limit of their own share, if there is one.
+    pub rate_of_rest: Option<u64>,
     /// The files being read.
     pub readings: &'a [Reading],
     /// The received files being stored, or those that couldn't be stored so far.
@@ -319,6 +321,7 @@ fn push_remotes<N: Names, R: Copy>(
             address: config.address_of(remote.id),
             held_since: tallies.links.held_since(place).map(Moment),
             open_until: open_until(shown, remote.id),
+            rate: rate_of(shown, place),
             datagrams_in: totals.datagrams_in,
             octets_in: totals.octets_in,
             datagrams_out: totals.datagrams_out,
@@ -336,6 +339,14 @@ fn open_until(shown: &Shown<'_>, remote: EntityId) -> Option<Moment> {
     let until = shown.windows.until(remote)?;
     let left = until.saturating_sub(shown.clock);
     Some(Moment(shown.now.0.saturating_add(left)))
+}
+
+// The limit that holds for the link to the remote entity at a place.
+fn rate_of(shown: &Shown<'_>, place: usize) -> Option<u64> {
+    match shown.tallies.links.rate(place) {
+        Some(rate) => Some(rate),
+        None => shown.rate_of_rest,
+    }
 }
 
 fn push_refusals<R: Wait>(

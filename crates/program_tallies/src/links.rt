@@ -6,8 +6,8 @@ use std::sync::atomic::{AtomicU64, Ordering};
 // An open link, in place of the moment since when it is held.
 const OPEN: u64 = 0;
 
-/// Since when the link to each remote entity is held, which one thread changes and others read. Also how many replies
-/// left over it in this second.
+/// Since when the link to each remote entity is held, and its own limit, which one thread changes and others read. Also
+/// how many replies left over it in this second.
 #[derive(Drop)]
 pub struct Links {
     since: Vec<AtomicU64>,
@@ -57,11 +57,17 @@ impl Links {
         self.held_since(place).is_some()
     }
 
-    /// Gives the remote entity at this place a limit in octets a second for replies.
-    pub fn limit_replies(&self, place: usize, octets: u64) {
+    /// Gives the link to the remote entity at this place a limit of its own in octets a second, or takes it away.
+    /// Replies keep to it, too.
+    pub fn limit(&self, place: usize, octets: Option<u64>) {
         if let Some(replies) = self.replies.get(place) {
-            replies.limit(octets);
+            replies.limit(octets.unwrap_or(0));
         }
+    }
+
+    /// A link's own limit in octets a second, if it has one.
+    pub fn rate(&self, place: usize) -> Option<u64> {
+        self.replies.get(place)?.limited()
     }
 
     /// Notes a reply of so many octets for the remote entity at this place, which is to leave at a moment of the

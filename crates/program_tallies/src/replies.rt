@@ -69,12 +69,20 @@ impl Replies {
         self.limit.store(octets, Ordering::Relaxed);
     }
 
+    /// How many octets may leave in a second, if that is limited.
+    pub(crate) fn limited(&self) -> Option<u64> {
+        match self.limit.load(Ordering::Relaxed) {
+            0 => None,
+            octets => Some(octets),
+        }
+    }
+
     /// Notes a reply of so many octets that is to leave at a moment of the runtime's clock, in milliseconds. Returns
     /// whether it may leave.
     pub(crate) fn may_leave(&self, octets: u64, now: u64) -> bool {
-        let (cost, most) = match self.limit.load(Ordering::Relaxed) {
-            0 => (1, MOST_REPLIES),
-            limit => (octets, limit.min(SECOND - 1)),
+        let (cost, most) = match self.limited() {
+            None => (1, MOST_REPLIES),
+            Some(limit) => (octets, limit.min(SECOND - 1)),
         };
         let second = now / MILLISECONDS_A_SECOND;
         for _ in 0..TRIES {

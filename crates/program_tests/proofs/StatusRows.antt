@@ -190,6 +190,7 @@ remote = record {
   address = None;
   held_since = Some noon;
   open_until = None;
+  rate = None;
   datagrams_in = 1;
   octets_in = 9007199254740992;
   datagrams_out = 2;
@@ -216,9 +217,10 @@ a_remote : remote_line (record remote {
   address = Some (ref (codes "192.0.2.1:4556"));
   held_since = None;
   open_until = None;
+  rate = Some 8000;
 })
     ≡ codes "{\"kind\":\"remote\",\"id\":18446744073709551615,\"id_text\":\"18446744073709551615\","
-    ++ codes "\"address\":\"192.0.2.1:4556\",\"held\":false,\"datagrams_in\":1,\"octets_in\":9007199254740992,"
+    ++ codes "\"address\":\"192.0.2.1:4556\",\"held\":false,\"rate\":8000,\"datagrams_in\":1,\"octets_in\":9007199254740992,"
     ++ codes "\"datagrams_out\":2,\"octets_out\":18,\"failed_sends\":3}\n"
 unfolding digits padded_integral char_count encode_utf8 chars is_utf8 encode_with print_from escape_byte text_member flag_member number_member hex_member octets_member moment_member object_member hexes_member first_octets safe_text
 a_remote = refl

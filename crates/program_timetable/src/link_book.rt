@@ -74,7 +74,7 @@ impl<'a> LinkBook<'a> {
     /// Limits the octets sent to this remote entity to this many a second from a moment on, or lets it share the pace
     /// of the links without a limit of their own.
     pub(crate) fn limit(&mut self, place: usize, octets: Option<u64>, now: u64) {
-        self.tallies.links.limit_replies(place, octets.unwrap_or(0));
+        self.tallies.links.limit(place, octets);
         let left = self.tallies.remote_totals(place).octets_out;
         if let Some(link) = self.links.get_mut(place) {
             match (octets, link.pace) {

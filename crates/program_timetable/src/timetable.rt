@@ -77,6 +77,11 @@ impl<'a> Timetable<'a> {
         self.agenda.wake_all();
     }
 
+    /// The limit in octets a second that all links without a limit of their own share, if there is one.
+    pub fn rate_of_rest(&self) -> Option<u64> {
+        self.pace.limit
+    }
+
     /// Holds the link to a remote entity from a moment on, in milliseconds since 1970: nothing is sent to it, its files
     /// rest, and its timers rest once they expire. Returns whether the configuration has the entity.
     pub fn hold(&mut self, remote: EntityId, at: u64) -> bool {

@@ -186,6 +186,7 @@ fn show<N: Names, R: Wait + Clock + Files + AllocGlobal + Copy + Drop>(
         shared: work.shared,
         outgoing: &work.outbox.outgoing,
         windows: &*work.windows,
+        rate_of_rest: work.station.timetable.rate_of_rest(),
         peers: work.readiness.peers(),
         started: work.settings.started,
         explains: work.settings.explains,

@@ -1,8 +1,8 @@
 //! Who commanded what, for whoever reads events.
-use server_lines::{command_words, put_words, send_words};
 use program_desk::Said;
 use program_seats::Asker;
 use program_start::Unread;
+use server_lines::{command_words, put_words, send_words};
 use server_reports::Reports;
 use server_requests::{Working, unread_in};
 use shared_lanes::Names;

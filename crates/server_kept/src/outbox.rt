@@ -1,7 +1,6 @@
 //! The outbox of a server: the files that wait, those that it began, and the file that keeps both over restarts.
 use cfdp_types::TxnKey;
 use cfdp_types::limits::FILE_OCTETS;
-use server_lines::send_words;
 use disk::SystemDisk;
 use entity_config::Config;
 use entity_routing::Place;
@@ -12,7 +11,7 @@ use program_start::ProgramFault;
 use program_status::push_outbox;
 use server_answers::{push_no_memory, push_too_large};
 use server_lanes::Begun;
-use server_lines::SendCommand;
+use server_lines::{SendCommand, send_words};
 use std::alloc::{AllocError, Global};
 use std::rt::Files;
 use std::time::Clock;

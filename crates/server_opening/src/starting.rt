@@ -1,11 +1,10 @@
 //! What is to be served, by the command line and the file that this names.
 use crate::checking::{check, station_fault, text_at};
 use entity_config::{Config, ConfigFault, read_config};
-use program_words::asked_text;
 use program_start::{ProgramFault, Started, load_text, print, push_explanation, tell_explanation};
 use program_words::{
-    EntityWords, ServerWords, WordsFault, push_server_complaint, server_help, server_version,
-    server_words,
+    EntityWords, ServerWords, WordsFault, asked_text, push_server_complaint, server_help,
+    server_version, server_words,
 };
 use server_answers::{push_cause, push_folder_notes, push_log_reason};
 use station_config::{Settings, read_station};

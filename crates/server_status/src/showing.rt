@@ -26,6 +26,8 @@ pub struct Shows<'s> {
     pub shared: Shared<'s>,
     pub outgoing: &'s Outgoing,
     pub windows: &'s Windows,
+    /// The limit in octets a second that all links without a limit of their own share, if there is one.
+    pub rate_of_rest: Option<u64>,
     pub peers: &'s [PeerLanes],
     pub started: Moment,
     pub explains: bool,
@@ -91,6 +93,7 @@ fn push_shown<N: Names, R: Wait + Clock + Copy>(
         notes: &reports.notes,
         outgoing: shows.outgoing,
         windows: shows.windows,
+        rate_of_rest: shows.rate_of_rest,
         readings: readings.as_slice(),
         storing: storing.as_slice(),
         parked: parked.as_slice(),

@@ -256,6 +256,11 @@ abbrev pub open_members : Option Moment → List Token
 open_members None = []
 open_members (Some until) = moment_member (codes "open_until") until
 
+-- how many octets a second leave for it at most, where that is limited
+abbrev pub rate_members : Option ℕ → List Token
+rate_members None = []
+rate_members (Some rate) = number_member (codes "rate") rate
+
 -- the counters of what is received from a remote entity and sent to it
 abbrev pub crossing_members : RemoteStatus → List Token
 crossing_members r =
@@ -275,7 +280,7 @@ remote_tail r = number_member (codes "failed_sends") r.failed_sends ++ heard_mem
 abbrev pub remote_line : RemoteStatus → List ℕ
 remote_line r =
     line_of (remote_head r ++ (held_members r.held_since ++ (open_members r.open_until
-    ++ (crossing_members r ++ remote_tail r))))
+    ++ (rate_members r.rate ++ (crossing_members r ++ remote_tail r)))))
 
 -- the line of a kind of refusal
 abbrev pub refusal_line : RefusedCase → Moment → Option RefusedPdu → List ℕ

@@ -1,7 +1,7 @@
 //! The lines of a status about remote entities.
 ghost use Rattle.std.specs.Prelude.{◌≡◌, ◌++◌, OnErr, OnOk, string_bytes};
 ghost use Rattle.std.specs.Option.{option_copied};
-ghost use Rattle.station_lines.specs.StatusLines.{address_members, crossing_members, heard_members, held_members, open_members, remote_head, remote_line, remote_tail};
+ghost use Rattle.station_lines.specs.StatusLines.{address_members, crossing_members, heard_members, held_members, open_members, rate_members, remote_head, remote_line, remote_tail};
 
 use crate::line::Line;
 use crate::moment::Moment;
@@ -22,6 +22,7 @@ pub fn push_remote(
     remote_head(&mut line, remote)?;
     held_members(&mut line, remote.held_since)?;
     open_members(&mut line, remote.open_until)?;
+    rate_members(&mut line, remote.rate)?;
     crossing_members(&mut line, remote)?;
     remote_tail(&mut line, remote)?;
     line.end(text)
@@ -63,6 +64,15 @@ fn open_members(line: &mut Line, open_until: Option<Moment>) -> Result<(), Alloc
     match open_until {
         None => Ok(()),
         Some(until) => line.moment(member::OPEN_UNTIL, until),
+    }
+}
+
+fn rate_members(line: &mut Line, rate: Option<u64>) -> Result<(), AllocError>
+    ensures { OnOk result (line.new ≡ line.old ++ rate_members rate) }
+{
+    match rate {
+        None => Ok(()),
+        Some(rate) => line.number(member::RATE, rate),
     }
 }
 

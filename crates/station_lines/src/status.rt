@@ -183,6 +183,8 @@ pub struct RemoteStatus<'a> {
     pub held_since: Option<Moment>,
     /// Until when its link is open, if it is open only for a time.
     pub open_until: Option<Moment>,
+    /// How many octets a second leave for it at most, if that is limited.
+    pub rate: Option<u64>,
     /// Datagrams that came from its address.
     pub datagrams_in: u64,
     /// Their octets.

@@ -137,6 +137,8 @@ pub const HELD_SINCE: &str = "held_since";
 
 pub const OPEN_UNTIL: &str = "open_until";
 
+pub const RATE: &str = "rate";
+
 pub const HEARD: &str = "heard";
 
 pub const SILENCE: &str = "silence";

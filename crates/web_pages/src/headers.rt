@@ -12,7 +12,7 @@ use std::alloc::AllocError;
 /// The content security policy: nothing comes from elsewhere, and of what is in the page only its own style and script
 /// are used, by their hashes.
 pub(crate) const POLICY: &str =
-    "default-src 'none'; style-src 'sha256-gf3cq0kDFoC96Z2bwCYJq7cSQrk5CH1ojiVzdORX69c='; script-src 'sha256-0zoq72atKZX4FQVJBZlKIyXazoYt8OnuaBCGQo82WQY='; connect-src 'self'; base-uri 'none'; form-action 'none'; frame-ancestors 'none'";
+    "default-src 'none'; style-src 'sha256-gf3cq0kDFoC96Z2bwCYJq7cSQrk5CH1ojiVzdORX69c='; script-src 'sha256-fnUlQJHnGX/1mCv1/CxwEC8GWju1NlLDwpcnVxoHSas='; connect-src 'self'; base-uri 'none'; form-action 'none'; frame-ancestors 'none'";
 
 /// Adds the headers of what is at a route.
 pub(crate) fn add_headers(route: Route, response: &mut Response) -> Result<(), AllocError>

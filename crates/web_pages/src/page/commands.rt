@@ -85,7 +85,6 @@ function note(e) {
     noteTurn(e);
     if (e.planned) plannedHolds.set(number(e, "id"), Date.parse(e.at));
   }
-  else if (e.kind === "command" && e.answer === "ok") noteRate(String(e.words));
   else if (e.kind === "indication" && e.name === "Metadata-Recv") notePast(e, { role: "receiver", peer: e.source });
   else if (e.kind === "indication" && e.name === "Abandoned") notePast(e, { condition: e.condition, octets: e.progress, last: e.at });
   else if (e.kind === "indication" && e.name === "Transaction-Finished") {
@@ -145,9 +144,7 @@ async function give(line) {
     const reply = await post(line, 8000);
     if (reply.status === 403) return "the console takes no commands, or the token is wrong";
     if (reply.status === 400) return "the console doesn't take this command";
-    const words = (await reply.text()).trim();
-    if (words === "ok") { noteRate(line); remember(); }
-    return words;
+    return (await reply.text()).trim();
   } catch (fault) { return "the console can't be reached"; }
 }
 async function command(line) {

@@ -46,9 +46,9 @@ function countLinks(all) {
     links.set(number(r, "id"), link);
   }
 }
-// What the page keeps in the browser, for each entity: alarms, which of them were acknowledged, ends of windows, and limits of links.
-const memory = { name: "", saved: "", raised: new Map(), known: new Map(), windows: new Map(), limits: new Map(), run: "", failedUntil: 0, unsentUntil: 0 };
-const LISTS = ["raised", "known", "windows", "limits"], MARKS = ["run", "failedUntil", "unsentUntil"];
+// What the page keeps in the browser, for each entity: alarms, which of them were acknowledged, and ends of windows.
+const memory = { name: "", saved: "", raised: new Map(), known: new Map(), windows: new Map(), run: "", failedUntil: 0, unsentUntil: 0 };
+const LISTS = ["raised", "known", "windows"], MARKS = ["run", "failedUntil", "unsentUntil"];
 function recall() {
   let kept = null;
   try { kept = JSON.parse(localStorage.getItem(memory.name)); } catch (fault) { kept = null; }
@@ -63,11 +63,10 @@ function remember() {
   memory.saved = words;
   try { localStorage.setItem(memory.name, words); } catch (fault) { memory.saved = ""; }
 }
-// The limits of a former run are gone.
 function recognize(entity) {
   const name = "cfdp entity " + number(entity, "id");
   if (memory.name !== name) { memory.name = name; recall(); }
-  if (memory.run !== String(entity.started)) { memory.run = String(entity.started); memory.limits.clear(); }
+  memory.run = String(entity.started);
 }
 addEventListener("storage", e => { if (e.key === memory.name) { recall(); showAlarms(); } });
 // Links that are held as planned: since the start, or since the end of a window. The station says of the latter in an event.
@@ -81,14 +80,6 @@ function noteWindows(all) {
 function isPlanned(r) {
   const id = number(r, "id"), from = Date.parse(r.held_since);
   return isOutside(id) || r.held_since === memory.run || from >= memory.windows.get(id) - 1000 || Math.abs(from - plannedHolds.get(id)) < 1000;
-}
-// The limit of what leaves for an entity, as far as the page saw the command that set it: its own, or that of all links.
-const limitOf = id => memory.limits.has(id) ? memory.limits.get(id) : memory.limits.get("all");
-function noteRate(words) {
-  const [verb, ...rest] = words.split(" ");
-  if (verb !== "rate" || rest.length < 1 || rest.length > 2) return;
-  const value = rest[rest.length - 1], id = rest.length === 2 ? rest[0] : "all";
-  if (/^[0-9]+$/.test(value)) memory.limits.set(id, Number(value)); else memory.limits.delete(id);
 }
 // What a chart is drawn from: octets each two seconds. A station that begins anew, or was away, leaves a gap.
 const SPAN = 600000, GAP = 10000, MOST_CHARTS = 24, HIGH = 140, PAD = { left: 70, right: 8, top: 10, bottom: 20 };
@@ -127,7 +118,7 @@ const charts = new Map();
 // A chart of one link, or of all together: octets a second over ten minutes, and the link's limit.
 class Chart {
   constructor(id) {
-    this.id = id; this.samples = []; this.inView = false; this.texts = [];
+    this.id = id; this.rate = undefined; this.samples = []; this.inView = false; this.texts = [];
     this.figure = element("figure"); this.figure.dataset.link = id;
     this.caption = element("span");
     const head = element("figcaption");
@@ -148,7 +139,7 @@ class Chart {
   }
   draw() {
     if (!this.inView) return;
-    const points = speeds(this.samples), limit = this.id === "all" ? undefined : limitOf(this.id), most = points.reduce((most, p) => Math.max(most, p.in, p.out), 4);
+    const points = speeds(this.samples), limit = this.rate, most = points.reduce((most, p) => Math.max(most, p.in, p.out), 4);
     const scale = axis(limit !== undefined && limit <= 8 * most ? Math.max(most, limit) : most), wide = Math.max(200, this.svg.clientWidth), floor = HIGH - PAD.bottom;
     const x = moment => wide - PAD.right - (wide - PAD.left - PAD.right) * (now - moment) / SPAN, y = value => floor - (floor - PAD.top) * value / scale.top;
     this.svg.setAttribute("viewBox", "0 0 " + wide + " " + HIGH);
@@ -191,14 +182,16 @@ const watched = new IntersectionObserver(entries => {
   for (const entry of entries) { const chart = entry.target.chart; chart.inView = entry.isIntersecting; chart.draw(); }
 }, { rootMargin: "200px" });
 function drawCharts(all, c) {
-  const shownLinks = all.remotes.slice(0, MOST_CHARTS).map(r => [number(r, "id"), r.octets_in, r.octets_out]), rows = [["all", c.octets_in, c.octets_out], ...shownLinks];
+  const shownLinks = all.remotes.slice(0, MOST_CHARTS).map(r => [number(r, "id"), r.octets_in, r.octets_out, r.rate]), rows = [["all", c.octets_in, c.octets_out], ...shownLinks];
   const ids = new Set(rows.map(row => row[0]));
   for (const [id, chart] of charts) if (!ids.has(id)) { watched.unobserve(chart.figure); chart.figure.remove(); charts.delete(id); }
-  for (const [id, into, out] of rows) {
+  for (const [id, into, out, rate] of rows) {
     if (into === undefined || out === undefined) continue;
     if (!charts.has(id)) charts.set(id, new Chart(id));
-    sample(charts.get(id).samples, into, out);
-    charts.get(id).draw();
+    const chart = charts.get(id);
+    sample(chart.samples, into, out);
+    chart.rate = rate;
+    chart.draw();
   }
   write("charts-note", all.remotes.length > MOST_CHARTS ? "The first " + MOST_CHARTS + " of " + all.remotes.length + " entities have a chart." : "");
 }
